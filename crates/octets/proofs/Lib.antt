@@ -1,3 +1,4 @@
+pub mod CountingLaws
 pub mod ReadLaws
 pub mod SumLaws
 pub mod WriteLaws

@@ -34,6 +34,10 @@ module _ (t : List ℕ) where
 pub take-rest : (start : ℕ) (t : List ℕ) → take (length t - start) (drop start t) ≡ drop start t
 take-rest start t = take-all (length t - start) (drop start t) (omega (arith, length-drop start t))
 
+pub part-none : (t : List ℕ) (start : ℕ) → part t start 0 ≡ []
+unfolding part
+part-none t start = refl
+
 module _ (t : List ℕ) (start size : ℕ) where
   pub part-past : length t ≤ start → part t start size ≡ []
   unfolding part

@@ -1,0 +1,22 @@
+// The calls for C boot firmware: numbers and byte ranges in, one 64-bit number out. include/bootfw.h declares them.
+use scan::Family;
+ghost use Prim.Native.Nat.{_<_, _^_};
+ghost use Rattle.bootfw.specs.Pack.{Packs};
+ghost use Rattle.bootfw.specs.Promises.{ScanAnswer};
+
+// An answer as one number: bits 0 to 7 the number, bits 8 to 31 the place or the address, bits 32 to 63 the Length.
+fn packed(number: u8, place: u32, length: u32) -> u64
+    requires { ⌜ place < 2 ^ 24 ⌝ }
+    ensures { λ r. ⌜ Packs number place length r ⌝ }
+{
+    number as u64 + 256 * place as u64 + 4294967296 * length as u64
+}
+
+// Looks for the lowest sound iBFT in the memory lent from `address` on: number, address and Length.
+#[no_mangle]
+pub extern "C" fn ibft_scan(memory: &[u8], address: u64) -> u64
+    ensures { λ r. ⌜ ScanAnswer (now (memory .entry)) address r ⌝ }
+{
+    let found = scan::scan_for(Family::IBFT, memory, address);
+    packed(found.number, found.address as u32, found.length)
+}

@@ -1,0 +1,4 @@
+pub mod Hostname
+pub mod HostnameCases
+pub mod Walk
+pub mod Computing

@@ -1,0 +1,19 @@
+// Calls of the library that tests/host measures and compares, and that C firmware has no use for. They are no part of
+// libbootfw.a.
+ghost use mathlib.Core.Path.{_≡_};
+ghost use Rattle.hostname.specs.Hostname.{isHostName};
+ghost use Rattle.octets.specs.Octets.{checksum};
+
+#[no_mangle]
+pub extern "C" fn test_host_name(s: &[u8]) -> bool
+    ensures { λ r. ⌜ r ≡ isHostName (now (s .entry)) ⌝ }
+{
+    hostname::is_host_name(s)
+}
+
+#[no_mangle]
+pub extern "C" fn test_checksum(s: &[u8], at: usize) -> u8
+    ensures { λ r. ⌜ r ≡ checksum (now (s .entry)) at ⌝ }
+{
+    octets::sum::checksum(s, at)
+}

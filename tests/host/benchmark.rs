@@ -1,0 +1,122 @@
+//! Times the library beside plain C and Rust twins. Prints; what it measures fails nothing.
+//!
+//! The contenders take turns in every round and the best time of each counts, so that what else
+//! the machine does weighs on all alike. Each call goes through a pointer that is read as volatile:
+//! the compiler can neither inline the callee nor know that a second call answers the same.
+
+#[allow(dead_code)] // compare.rs uses all of it
+mod library;
+#[allow(dead_code)]
+mod seeded;
+mod twins;
+
+use seeded::Seeded;
+use std::time::Instant;
+
+const CONTENDERS: [&str; 3] = ["library", "C twin", "Rust twin"];
+
+const WINDOW_START: u64 = 0x80000;
+const WINDOW_SIZE: usize = 0x80000;
+
+/// The Length that every place claims in the scan with a signature at each: a common table's.
+const CLAIMED_LENGTH: u32 = 427;
+
+extern "C" {
+    fn c_scan(memory: *const u8, size: usize, address: u64) -> u64;
+    fn c_checksum(bytes: *const u8, size: usize, at: usize) -> u8;
+}
+
+type Scan = unsafe extern "C" fn(*const u8, usize, u64) -> u64;
+type Checksum = unsafe extern "C" fn(*const u8, usize, usize) -> u8;
+
+static SCANS: [Scan; 3] = [library::ibft_scan, c_scan, twins::rust_scan];
+static CHECKSUMS: [Checksum; 3] = [library::test_checksum, c_checksum, twins::rust_checksum];
+
+fn scan_by(contender: usize, memory: &[u8]) -> u64 {
+    unsafe {
+        let scan = std::ptr::read_volatile(&SCANS[contender]);
+        scan(memory.as_ptr(), memory.len(), WINDOW_START)
+    }
+}
+
+fn checksum_by(contender: usize, bytes: &[u8]) -> u64 {
+    unsafe {
+        let checksum = std::ptr::read_volatile(&CHECKSUMS[contender]);
+        u64::from(checksum(bytes.as_ptr(), bytes.len(), 9))
+    }
+}
+
+/// The best time of a call, in nanoseconds, for each contender.
+fn best_times(rounds: usize, calls: usize, call: impl Fn(usize) -> u64) -> [f64; 3] {
+    let mut best = [f64::INFINITY; 3];
+    for _ in 0..rounds {
+        for contender in 0..3 {
+            let start = Instant::now();
+            for _ in 0..calls {
+                call(contender);
+            }
+            let time = start.elapsed().as_nanos() as f64 / calls as f64;
+            best[contender] = best[contender].min(time);
+        }
+    }
+    best
+}
+
+fn measure(what: &str, rounds: usize, calls: usize, call: impl Fn(usize) -> u64) {
+    let answers = [call(0), call(1), call(2)];
+    if answers != [answers[0]; 3] {
+        println!("{}: the answers differ, {:?}: no comparison", what, answers);
+        return;
+    }
+    let best = best_times(rounds, calls, call);
+    println!("{}", what);
+    for (name, time) in CONTENDERS.iter().zip(best) {
+        println!("  {:<10} {:>12.1} ns", name, time);
+    }
+    println!(
+        "  library / C twin {:.2}, library / Rust twin {:.2}",
+        best[0] / best[1],
+        best[0] / best[2]
+    );
+}
+
+/// 512 KiB without a signature.
+fn nothing_there() -> Vec<u8> {
+    let mut memory = Seeded::new(1).bytes(WINDOW_SIZE);
+    for place in memory.chunks_mut(16) {
+        place[0] = b'-';
+    }
+    memory
+}
+
+/// 512 KiB with a signature at every multiple of 16. The bytes that a place claims sum to 107
+/// modulo 256.
+fn signature_everywhere() -> Vec<u8> {
+    let mut memory = vec![0; WINDOW_SIZE];
+    for place in memory.chunks_mut(16) {
+        place[..4].copy_from_slice(b"iBFT");
+        place[4..8].copy_from_slice(&CLAIMED_LENGTH.to_le_bytes());
+    }
+    memory
+}
+
+fn main() {
+    let nothing = nothing_there();
+    measure("scan of 512 KiB, nothing there", 400, 20, |c| {
+        scan_by(c, &nothing)
+    });
+
+    let everywhere = signature_everywhere();
+    let what = format!(
+        "scan of 512 KiB, signature at every place, Length {}, bad sums",
+        CLAIMED_LENGTH
+    );
+    measure(&what, 400, 2, |c| scan_by(c, &everywhere));
+
+    for size in [427, 3_702] {
+        let bytes = Seeded::new(2).bytes(size);
+        measure(&format!("checksum of {} bytes", size), 1_000, 2_000, |c| {
+            checksum_by(c, &bytes)
+        });
+    }
+}
