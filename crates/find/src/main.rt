@@ -92,7 +92,10 @@ fn find(address: u64) {
     let mut dump = [0u8; 524289];
     let n = io::read_full(0, &mut dump);
     if address < WINDOW_START && 524288 < n {
-        io::write_all(2, b"find: the dump is too long; leave out what stood below 0x80000\n");
+        io::write_all(
+            2,
+            b"find: the dump is too long; leave out what stood below 0x80000\n",
+        );
         return;
     }
     print_scanned(scan::scan_for(Family::IBFT, octets::read::part(&dump, 0, n), address));
@@ -104,7 +107,10 @@ fn main() {
     match number_of(octets::read::part(&text, 0, n)) {
         Number::Value(address) => find(address),
         Number::Bad => {
-            io::write_all(2, b"find: give the address of the dump's first byte, as 0x9f000\n");
+            io::write_all(
+                2,
+                b"find: give the address of the dump's first byte, as 0x9f000\n",
+            );
         }
     }
 }

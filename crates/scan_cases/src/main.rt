@@ -66,20 +66,32 @@ fn good_table_inside_a_bad_one() {
     lay_table(&mut mem, 0, 64);
     spoil(&mut mem, 12);
     lay_table(&mut mem, 16, 48);
-    scan_case(b"bad sum over 64 bytes, good table at 524304 inside them", &mem, 0x80000);
+    scan_case(
+        b"bad sum over 64 bytes, good table at 524304 inside them",
+        &mem,
+        0x80000,
+    );
 }
 
 fn cut_by_the_end() {
     let mut mem = [0u8; 128];
     lay_table(&mut mem, 80, 48);
     scan_case(b"table of 48 at 524368, all its bytes lent", &mem, 0x80000);
-    scan_case(b"the same, its last byte not lent", part(&mem, 0, 127), 0x80000);
+    scan_case(
+        b"the same, its last byte not lent",
+        part(&mem, 0, 127),
+        0x80000,
+    );
 }
 
 fn fills_the_window() {
     let mut mem = [0u8; 524288];
     lay_table(&mut mem, 0, 524288);
-    scan_case(b"table of 524288 at 524288: the whole window", &mem, 0x80000);
+    scan_case(
+        b"table of 524288 at 524288: the whole window",
+        &mem,
+        0x80000,
+    );
 }
 
 fn nothing_lent() {
@@ -103,7 +115,12 @@ fn main() {
     one_table(b"Length 48", 16, 48, 0x80000);
     one_table(b"Length 65", 16, 65, 0x80000);
     one_table(b"Length 4294967295", 16, 0xFFFFFFFF, 0x80000);
-    one_table(b"table of 48 at 1048528, up to the window's end", 80, 48, 0xFFF80);
+    one_table(
+        b"table of 48 at 1048528, up to the window's end",
+        80,
+        48,
+        0xFFF80,
+    );
     fills_the_window();
     nothing_lent();
 }
