@@ -1,6 +1,6 @@
 /*
  * bootfw.h: the C interface of libbootfw.a, for firmware that looks for an
- * iSCSI Boot Firmware Table (iBFT) in low memory.
+ * iSCSI Boot Firmware Table (iBFT) in low memory and checks it.
  *
  * docs/C-INTERFACE.md says how to link, what a caller has to keep and how an
  * answer is split. Offsets below count bytes from the start of the structure.
@@ -268,6 +268,11 @@ BOOTFW_ASSERT(size_t_is_64_bits, sizeof(size_t) == 8);
  * the given address. Answers 0 with its address and Length; or 1 or 2 with
  * address and Length 0. Writes nothing. */
 uint64_t ibft_scan(const uint8_t *memory, size_t memory_size, uint64_t address);
+
+/* Checks the table that starts with the first of the lent bytes; more may be
+ * lent than its Length. Answers 0 with place 0; or the first of 3 to 19 that
+ * applies, with its place. Bits 32-63 are 0. Writes nothing. */
+uint64_t ibft_check(const uint8_t *table, size_t table_size);
 
 #ifdef __cplusplus
 }

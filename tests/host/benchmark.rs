@@ -7,11 +7,17 @@
 #[allow(dead_code)] // compare.rs uses all of it
 mod library;
 #[allow(dead_code)]
+mod model_layout;
+#[allow(dead_code)]
 mod seeded;
+#[allow(dead_code)]
+mod table_maker;
+mod twin_check;
 mod twins;
 
 use seeded::Seeded;
 use std::time::Instant;
+use table_maker::{common_table, largest_table};
 
 const CONTENDERS: [&str; 3] = ["library", "C twin", "Rust twin"];
 
@@ -24,13 +30,16 @@ const CLAIMED_LENGTH: u32 = 427;
 extern "C" {
     fn c_scan(memory: *const u8, size: usize, address: u64) -> u64;
     fn c_checksum(bytes: *const u8, size: usize, at: usize) -> u8;
+    fn c_check(table: *const u8, size: usize) -> u64;
 }
 
 type Scan = unsafe extern "C" fn(*const u8, usize, u64) -> u64;
 type Checksum = unsafe extern "C" fn(*const u8, usize, usize) -> u8;
+type Check = unsafe extern "C" fn(*const u8, usize) -> u64;
 
 static SCANS: [Scan; 3] = [library::ibft_scan, c_scan, twins::rust_scan];
 static CHECKSUMS: [Checksum; 3] = [library::test_checksum, c_checksum, twins::rust_checksum];
+static CHECKS: [Check; 3] = [library::ibft_check, c_check, twin_check::rust_check];
 
 fn scan_by(contender: usize, memory: &[u8]) -> u64 {
     unsafe {
@@ -43,6 +52,13 @@ fn checksum_by(contender: usize, bytes: &[u8]) -> u64 {
     unsafe {
         let checksum = std::ptr::read_volatile(&CHECKSUMS[contender]);
         u64::from(checksum(bytes.as_ptr(), bytes.len(), 9))
+    }
+}
+
+fn check_by(contender: usize, table: &[u8]) -> u64 {
+    unsafe {
+        let check = std::ptr::read_volatile(&CHECKS[contender]);
+        check(table.as_ptr(), table.len())
     }
 }
 
@@ -118,5 +134,10 @@ fn main() {
         measure(&format!("checksum of {} bytes", size), 1_000, 2_000, |c| {
             checksum_by(c, &bytes)
         });
+    }
+
+    for (which, table) in [("common", common_table()), ("largest", largest_table())] {
+        let what = format!("check of the {} table, {} bytes", which, table.length());
+        measure(&what, 1_000, 300, |c| check_by(c, &table.bytes));
     }
 }

@@ -1,24 +1,47 @@
-//! Compares what the static libraries answer with independent readings of document 01, on seeded
-//! inputs. Prints how often each answer was met; exits 1 at the first difference.
+//! Compares what the static libraries and the program `show` answer with independent readings of
+//! document 01, on seeded inputs. Prints how often each answer was met; exits 1 at the first
+//! difference.
 //!
 //! The readings are the files model_*.rs, written from the document alone; a call that is exported
-//! later gets its reading and its comparison beside these.
+//! later gets its reading and its comparison beside these. The environment variable SHOW names the
+//! program.
 
+mod compare_check;
 mod compare_checksum;
 mod compare_host_name;
+mod compare_login;
+mod compare_readings;
 mod compare_scan;
+mod compare_show;
+mod good_tables;
 mod lent_memory;
+mod lent_table;
 mod library;
 mod model_answer;
+mod model_check;
 mod model_checksum;
 mod model_host_name;
+mod model_layout;
+mod model_login;
+mod model_readings;
 mod model_scan;
+mod model_show;
+mod refusals;
+mod samples;
 mod seeded;
+mod table_damage;
+mod table_maker;
+mod table_shapes;
 mod tally;
 
 fn main() {
-    let all_agree =
-        compare_scan::compare() && compare_host_name::compare() && compare_checksum::compare();
+    let all_agree = compare_scan::compare()
+        && compare_host_name::compare()
+        && compare_checksum::compare()
+        && compare_check::compare()
+        && compare_readings::compare()
+        && compare_login::compare()
+        && compare_show::compare();
     if !all_agree {
         std::process::exit(1);
     }

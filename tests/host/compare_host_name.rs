@@ -18,7 +18,7 @@ const SHAPES: &[Shape] = &[
         vec![b'a', n as u8, b'b']
     }),
     ("every string over a - . NUL to 7", EVERY_SHORT, every_short),
-    ("names", MANY, |_, seeded| name(seeded)),
+    ("names", MANY, |_, seeded| good_name(seeded)),
     ("names with a byte changed", MANY, byte_changed),
     ("random bytes", MANY, random_bytes),
     ("labels of 62 to 65", MANY, long_labels),
@@ -31,6 +31,12 @@ const SHAPES: &[Shape] = &[
     ("longer than 255", MANY, longer_than_255),
     ("bytes beside letters and digits", MANY, beside_letters),
 ];
+
+/// A name of any of the shapes.
+pub fn any_name(seeded: &mut Seeded) -> Vec<u8> {
+    let (_, inputs, make) = SHAPES[seeded.between(0, SHAPES.len() - 1)];
+    make(seeded.between(0, inputs - 1), seeded)
+}
 
 const LETTERS: &[u8] = b"abcxyzABCXYZ0189";
 
@@ -71,7 +77,7 @@ fn name_of(seeded: &mut Seeded, labels: usize, longest: usize) -> Vec<u8> {
 }
 
 /// A good name of one to five labels.
-fn name(seeded: &mut Seeded) -> Vec<u8> {
+pub fn good_name(seeded: &mut Seeded) -> Vec<u8> {
     let labels = seeded.between(1, 5);
     name_of(seeded, labels, 20)
 }
@@ -81,7 +87,7 @@ fn any_place(seeded: &mut Seeded, text: &[u8]) -> usize {
 }
 
 fn byte_changed(_: usize, seeded: &mut Seeded) -> Vec<u8> {
-    let mut text = name(seeded);
+    let mut text = good_name(seeded);
     let at = any_place(seeded, &text);
     text[at] = seeded.byte();
     text
@@ -122,7 +128,7 @@ fn many_dots(_: usize, seeded: &mut Seeded) -> Vec<u8> {
 }
 
 fn hyphens(_: usize, seeded: &mut Seeded) -> Vec<u8> {
-    let mut text = name(seeded);
+    let mut text = good_name(seeded);
     for _ in 0..seeded.between(1, 3) {
         let at = any_place(seeded, &text);
         match seeded.between(0, 3) {
@@ -145,19 +151,19 @@ fn trailing_dots(_: usize, seeded: &mut Seeded) -> Vec<u8> {
 
 fn leading_dots(_: usize, seeded: &mut Seeded) -> Vec<u8> {
     let mut text = vec![b'.'; seeded.between(1, 2)];
-    text.extend(name(seeded));
+    text.extend(good_name(seeded));
     text
 }
 
 fn doubled_dots(_: usize, seeded: &mut Seeded) -> Vec<u8> {
-    let mut text = name(seeded);
+    let mut text = good_name(seeded);
     let at = any_place(seeded, &text);
     text.splice(at..at, *b"..");
     text
 }
 
 fn zero_byte(_: usize, seeded: &mut Seeded) -> Vec<u8> {
-    let mut text = name(seeded);
+    let mut text = good_name(seeded);
     let at = any_place(seeded, &text);
     match seeded.between(0, 2) {
         0 => text.push(0),
@@ -173,7 +179,7 @@ fn longer_than_255(_: usize, seeded: &mut Seeded) -> Vec<u8> {
     let mut text = name_of(seeded, labels, 63);
     while text.len() <= 255 {
         text.push(b'.');
-        text.extend(name(seeded));
+        text.extend(good_name(seeded));
     }
     if seeded.once_in(3) {
         let at = any_place(seeded, &text);
@@ -184,7 +190,7 @@ fn longer_than_255(_: usize, seeded: &mut Seeded) -> Vec<u8> {
 
 /// The bytes next to the ranges of letters and digits, and letters with the top bit set.
 fn beside_letters(_: usize, seeded: &mut Seeded) -> Vec<u8> {
-    let mut text = name(seeded);
+    let mut text = good_name(seeded);
     let at = any_place(seeded, &text);
     text[at] = seeded.one_of(b"/09:@AZ[`az{,_\x80\xB0\xC1\xE1\xFA\xFF");
     text

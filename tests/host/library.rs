@@ -3,8 +3,25 @@
 //! `test_host_name` answers C's `bool`. It is read as a byte here, so that an answer other than
 //! 0 and 1 is a difference like any other.
 
+/// A reading without a number, and one with: the table, the number, and the bytes for what is read.
+pub type Reading = unsafe extern "C" fn(*const u8, usize, *mut u8, usize) -> u64;
+pub type NumberedReading = unsafe extern "C" fn(*const u8, usize, u8, *mut u8, usize) -> u64;
+
 extern "C" {
     pub fn ibft_scan(memory: *const u8, memory_size: usize, address: u64) -> u64;
+    pub fn ibft_check(table: *const u8, table_size: usize) -> u64;
+
     pub fn test_host_name(name: *const u8, name_size: usize) -> u8;
     pub fn test_checksum(bytes: *const u8, size: usize, at: usize) -> u8;
+
+    pub fn test_structure(table: *const u8, size: usize, slot: u8) -> u64;
+    pub fn test_entry(table: *const u8, size: usize, entry: u8) -> u64;
+    pub fn test_entry_place(table: *const u8, size: usize, entry: u8) -> u64;
+    pub fn test_login_order(table: *const u8, size: usize) -> u64;
+    pub fn test_header(table: *const u8, size: usize, out: *mut u8, out_size: usize) -> u64;
+    pub fn test_initiator(table: *const u8, size: usize, out: *mut u8, out_size: usize) -> u64;
+    pub fn test_nic(table: *const u8, size: usize, n: u8, out: *mut u8, out_size: usize) -> u64;
+    pub fn test_target(table: *const u8, size: usize, n: u8, out: *mut u8, out_size: usize) -> u64;
+    pub fn test_address_kind(address: *const u8, size: usize) -> u64;
+    pub fn test_pci(word: u16) -> u64;
 }

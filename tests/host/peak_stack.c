@@ -1,5 +1,5 @@
 /*
- * The peak stack of the exported scan and of the host name check, on a painted
+ * The peak stack of the exported calls and of the host name check, on a painted
  * stack of their own. Exits 1 above the limits: the firmware's stack is 4 KiB.
  *
  * What counts is the way from the caller's stack pointer down to the deepest
@@ -21,9 +21,24 @@ enum {
     STACK_SIZE = 1 << 20,
     HEADROOM = 4096,
     SCAN_LIMIT = 4096,
+    CHECK_LIMIT = 4096,
     HOST_NAME_LIMIT = 256,
     WINDOW_SIZE = IBFT_WINDOW_END - IBFT_WINDOW_START,
     LONG_NAME = 20001,
+};
+
+/* The largest table: every structure in the order of a build, and each string as
+ * long as it may be. */
+enum {
+    INITIATOR = 72,
+    NIC0 = 152,
+    NIC1 = 256,
+    TARGET0 = 360,
+    TARGET1 = 416,
+    HEAP = TARGET1 + sizeof(struct ibft_target),
+    LARGEST_LENGTH = 3702,
+    LONGEST_NAME = 223,
+    LONGEST_OTHER = 255,
 };
 
 struct call {
@@ -46,6 +61,12 @@ static void run_scan(struct call *call)
 {
     STACK_POINTER(call->stack_pointer);
     call->answer = ibft_scan(call->bytes, call->size, call->address);
+}
+
+static void run_check(struct call *call)
+{
+    STACK_POINTER(call->stack_pointer);
+    call->answer = ibft_check(call->bytes, call->size);
 }
 
 static void run_host_name(struct call *call)
@@ -116,6 +137,13 @@ static void measure_scan(const char *what, size_t size, uint64_t address, uint64
     measure(what, call, answer, SCAN_LIMIT);
 }
 
+static void measure_check(const char *what, size_t size, uint64_t answer)
+{
+    struct call call = { .run = run_check, .bytes = memory, .size = size };
+
+    measure(what, call, answer, CHECK_LIMIT);
+}
+
 static void measure_host_name(const char *what, size_t size)
 {
     struct call call = { .run = run_host_name, .bytes = name, .size = size };
@@ -167,11 +195,109 @@ static void measure_scans(void)
     measure_scan("scan, bytes lent from 0x7FFF8", 1000, start - 8, found(start + 16, 427));
 }
 
+static void lay_header(uint32_t length)
+{
+    static const uint8_t control[] = { 1, 1, 18, 0, 0, 0, 0, 0, INITIATOR, 0, NIC0, 0,
+                                       TARGET0 & 255, TARGET0 >> 8, NIC1 & 255, NIC1 >> 8,
+                                       TARGET1 & 255, TARGET1 >> 8 };
+
+    memset(memory, 0, sizeof memory);
+    memcpy(memory, "iBFT", 4);
+    memcpy(memory + 4, &length, sizeof length);
+    memory[8] = 1;
+    memcpy(memory + 48, control, sizeof control);
+}
+
+static void lay_structure(size_t start, uint8_t id, uint16_t length, uint8_t index)
+{
+    struct ibft_structure_header header = {
+        .id = id, .version = 1, .length = length, .index = index, .flags = 1,
+    };
+
+    memcpy(memory + start, &header, sizeof header);
+}
+
+/* A string of labels of one letter at *offset; *offset moves behind its zero. */
+static void lay_entry(size_t field, uint16_t length, uint16_t *offset)
+{
+    struct ibft_entry entry = { .length = length, .offset = *offset };
+
+    memcpy(memory + field, &entry, sizeof entry);
+    memcpy(memory + *offset, name, length);
+    *offset = (uint16_t)(*offset + length + 1);
+}
+
+static void lay_target(size_t start, uint8_t index, uint16_t *offset)
+{
+    lay_structure(start, 4, sizeof(struct ibft_target), index);
+    lay_entry(start + 34, LONGEST_NAME, offset);
+    for (size_t at = 38; at <= 50; at += 4)
+        lay_entry(start + at, LONGEST_OTHER, offset);
+}
+
+/* Sets the checksum byte of the largest table. */
+static void mend_sum(void)
+{
+    uint8_t sum = 0;
+
+    for (size_t i = 0; i < LARGEST_LENGTH; i++)
+        sum = (uint8_t)(sum + memory[i]);
+    memory[9] = (uint8_t)(memory[9] - sum);
+}
+
+/* The largest table; each host name has 127 dots. */
+static void lay_largest_table(void)
+{
+    uint16_t offset = HEAP;
+
+    lay_header(LARGEST_LENGTH);
+    lay_structure(INITIATOR, 2, sizeof(struct ibft_initiator), 0);
+    lay_structure(NIC0, 3, sizeof(struct ibft_nic), 0);
+    lay_structure(NIC1, 3, sizeof(struct ibft_nic), 1);
+    lay_entry(INITIATOR + 70, LONGEST_NAME, &offset);
+    lay_entry(NIC0 + 98, LONGEST_OTHER, &offset);
+    lay_entry(NIC1 + 98, LONGEST_OTHER, &offset);
+    lay_target(TARGET0, 0, &offset);
+    lay_target(TARGET1, 1, &offset);
+    mend_sum();
+}
+
+static uint64_t refused(uint64_t number, uint64_t place)
+{
+    return number | place << 8;
+}
+
+static void measure_checks(void)
+{
+    size_t last_letter = HEAP + LONGEST_NAME + 1 + 2 * LONGEST_OTHER;
+
+    measure_check("check, nothing lent", 0, IBFT_REFUSED_FEW_BYTES);
+    lay_largest_table();
+    measure_check("check, largest table, host names with 127 dots", LARGEST_LENGTH, 0);
+    measure_check("check, more bytes lent", WINDOW_SIZE, 0);
+    memory[last_letter] = ' ';
+    measure_check("check, wrong sum", LARGEST_LENGTH, refused(IBFT_REFUSED_SUM, 9));
+    mend_sum();
+    measure_check("check, refused at the last letter of a host name", LARGEST_LENGTH,
+                  refused(IBFT_REFUSED_HOST_NAME, NIC1 + 98));
+    lay_largest_table();
+    memory[LARGEST_LENGTH - 1] = 'a';
+    mend_sum();
+    measure_check("check, refused at the last byte", LARGEST_LENGTH,
+                  refused(IBFT_REFUSED_ENTRY_END, TARGET1 + 50));
+    memory[62] = NIC0;
+    memory[63] = 0;
+    mend_sum();
+    measure_check("check, refused at a structure", LARGEST_LENGTH,
+                  refused(IBFT_REFUSED_STRUCTURE, NIC0));
+}
+
 int main(void)
 {
-    measure_scans();
     for (size_t i = 0; i < sizeof name; i++)
         name[i] = i % 2 == 0 ? 'a' : '.';
+    measure_scans();
+    measure_checks();
     measure_host_name("host name, 255 bytes with 127 dots", 255);
     measure_host_name("host name, 20001 bytes with 10000 dots", sizeof name);
     return 0;

@@ -16,10 +16,20 @@ impl Tally {
     }
 
     pub fn count(&mut self, shape: &'static str, answer: usize) {
-        if self.rows.last().map(|row| row.0) != Some(shape) {
-            self.rows.push((shape, vec![0; self.answers.len()]));
-        }
-        self.rows.last_mut().unwrap().1[answer] += 1;
+        let row = match self.rows.iter().position(|row| row.0 == shape) {
+            Some(row) => row,
+            None => {
+                self.rows.push((shape, vec![0; self.answers.len()]));
+                self.rows.len() - 1
+            }
+        };
+        self.rows[row].1[answer] += 1;
+    }
+
+    /// How often inputs of a shape had an answer.
+    pub fn times(&self, shape: &str, answer: usize) -> usize {
+        let rows = self.rows.iter().filter(|row| row.0 == shape);
+        rows.map(|row| row.1[answer]).sum()
     }
 
     fn total(&self, answer: usize) -> usize {

@@ -45,7 +45,7 @@ fn sound_length(place: &[u8]) -> Option<u32> {
     Some(length)
 }
 
-fn sum(bytes: &[u8]) -> u8 {
+pub fn sum(bytes: &[u8]) -> u8 {
     bytes.iter().fold(0, |sum, byte| sum.wrapping_add(*byte))
 }
 

@@ -3,9 +3,17 @@ use mathlib.Core.List.{List}
 use Prim.Native.Nat.{ℕ}
 use Rattle.scan.specs.Scan.{ibft, scanOf}
 use Rattle.scan.specs.Promises.{Promise}
+use Rattle.ibft_table.specs.Verdict.{refusalOf}
+use Rattle.ibft_table.specs.Check.{checkOf}
+use Rattle.ibft_table.specs.Promises.{Check}
 use Rattle.bootfw.specs.Pack.{Packs}
 
 -- `ibft_scan`: the scan's answer, packed; and what a scan promises of it (lowest, sound, exact refusals)
 pub record ScanAnswer (memory : List ℕ) (address r : ℕ) : Type 0 where
   pub answer : Packs ((scanOf ibft memory address) .number) ((scanOf ibft memory address) .address) ((scanOf ibft memory address) .length) r
   pub promise : Promise ibft memory address (scanOf ibft memory address)
+
+-- `ibft_check`: the number and place of the check's verdict, packed, with 0 in bits 32 to 63; and what the check promises of it
+pub record CheckAnswer (table : List ℕ) (r : ℕ) : Type 0 where
+  pub answer : Packs ((refusalOf (checkOf table)) .number) ((refusalOf (checkOf table)) .place) 0 r
+  pub promise : Check table (checkOf table)

@@ -1,8 +1,9 @@
 // The calls for C boot firmware: numbers and byte ranges in, one 64-bit number out. include/bootfw.h declares them.
+use ibft_table::verdict::Verdict;
 use scan::Family;
 ghost use Prim.Native.Nat.{_<_, _^_};
 ghost use Rattle.bootfw.specs.Pack.{Packs};
-ghost use Rattle.bootfw.specs.Promises.{ScanAnswer};
+ghost use Rattle.bootfw.specs.Promises.{ScanAnswer, CheckAnswer};
 
 // An answer as one number: bits 0 to 7 the number, bits 8 to 31 the place or the address, bits 32 to 63 the Length.
 fn packed(number: u8, place: u32, length: u32) -> u64
@@ -19,4 +20,15 @@ pub extern "C" fn ibft_scan(memory: &[u8], address: u64) -> u64
 {
     let found = scan::scan_for(Family::IBFT, memory, address);
     packed(found.number, found.address as u32, found.length)
+}
+
+// Checks a table: number and place of the refusal, 0 where it is accepted.
+#[no_mangle]
+pub extern "C" fn ibft_check(table: &[u8]) -> u64
+    ensures { λ r. ⌜ CheckAnswer (now (table .entry)) r ⌝ }
+{
+    match ibft_table::check::check(table) {
+        Verdict::Accepted => packed(0, 0, 0),
+        Verdict::Refused(refusal) => packed(refusal.number, refusal.place, 0),
+    }
 }

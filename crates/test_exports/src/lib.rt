@@ -1,5 +1,12 @@
 // Calls of the library that tests/host measures and compares, and that C firmware has no use for. They are no part of
-// libbootfw.a.
+// libbootfw.a. A reading answers with one number, and lays its fields out in the bytes that the caller lends.
+mod header;
+mod initiator;
+mod nic;
+mod packed;
+mod put;
+mod target;
+
 ghost use mathlib.Core.Path.{_≡_};
 ghost use Rattle.hostname.specs.Hostname.{isHostName};
 ghost use Rattle.octets.specs.Octets.{checksum};

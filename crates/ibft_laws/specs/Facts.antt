@@ -1,0 +1,64 @@
+-- What an accepted table holds, as facts: document 01's Layout and Strings without the refusals. `AcceptedLaws` shows that a
+-- table is accepted exactly where all of these hold. Assumes nothing: these are definitions.
+use mathlib.Core.Path.{_≡_}
+use mathlib.Core.Logic.{_⊎_}
+use mathlib.Core.Bool.{true}
+use mathlib.Core.List.{List}
+use Prim.Native.Nat.{ℕ, _+_, _%_, _≤_, _<_}
+use lib.ListN.{length, take}
+use lib.Bits.{bitAnd}
+use Rattle.octets.specs.Octets.{byte, word16, word32, part, sum}
+use Rattle.hostname.specs.Hostname.{isHostName}
+use Rattle.ibft_table.specs.Layout.{Kind, control, slotCount, kindOf, indexOf, controlAt, extensionsAt, leastStart, chapAt, entryCount, stringOf}
+use Rattle.ibft_table.specs.Table.{lengthOf, startOf, present, endOf, heapOf, sizeOf, offsetOf, holdsEntry}
+use Rattle.ibft_table.specs.Check.{padded}
+
+-- the header of a table with this signature, at least so many bytes lent and of at least this Length
+pub record HeaderFacts (signature leastLent leastLength : ℕ) (t : List ℕ) : Type 0 where
+  pub lent : leastLent ≤ length t
+  pub signed : word32 t 0 ≡ signature
+  pub long : leastLength ≤ lengthOf t
+  pub whole : lengthOf t ≤ length t
+  pub sums : sum (take (lengthOf t) t) % 256 ≡ 0
+  pub revision : byte t 8 ≡ 1
+  pub oem-id : padded (part t 10 6) ≡ true
+  pub oem-table-id : padded (part t 16 8) ≡ true
+
+-- a structure of this kind and Index stands at `start`: ID, version, length, Index; no flag bit that the kind does not name
+pub record StartFacts (t : List ℕ) (start : ℕ) (kind : Kind) (index : ℕ) : Type 0 where
+  pub id : byte t start ≡ kind .id
+  pub version : byte t (start + 1) ≡ kind .version
+  pub length-is : word16 t (start + 2) ≡ kind .length
+  pub index-is : byte t (start + 4) ≡ index
+  pub reserved : bitAnd (byte t (start + 5)) (kind .reserved) ≡ 0
+
+pub record ControlFacts (t : List ℕ) : Type 0 where
+  pub starts : StartFacts t controlAt control 0
+  pub extensions : word16 t extensionsAt ≡ 0
+
+-- slot k, where its structure is present
+pub record SlotFacts (t : List ℕ) (k : ℕ) : Type 0 where
+  pub aligned : startOf t k % 8 ≡ 0
+  pub least : leastStart ≤ startOf t k
+  pub inside : endOf t k ≤ lengthOf t
+  pub starts : StartFacts t (startOf t k) (kindOf k) (indexOf k)
+  pub chap : (kindOf k) .chap ≡ true → byte t (startOf t k + chapAt) ≤ 2
+
+-- entry n, where it is present: it and the zero behind it lie in the heap
+pub record EntryFacts (t : List ℕ) (n : ℕ) : Type 0 where
+  pub low : heapOf t ≤ offsetOf t n
+  pub high : offsetOf t n + sizeOf t n < lengthOf t
+  pub ends : byte t (offsetOf t n + sizeOf t n) ≡ 0
+  pub longest : sizeOf t n ≤ (stringOf n) .longest
+  pub host : (stringOf n) .host ≡ true → isHostName (part t (offsetOf t n) (sizeOf t n)) ≡ true
+
+-- the structures of slots i and k share no byte
+abbrev pub Disjoint : List ℕ → ℕ → ℕ → Type 0
+Disjoint t i k = (endOf t i ≤ startOf t k) ⊎ (endOf t k ≤ startOf t i)
+
+pub record Facts (t : List ℕ) : Type 0 where
+  pub header : HeaderFacts 0x54464269 48 66 t
+  pub control : ControlFacts t
+  pub slot : (k : ℕ) → k < slotCount → present t k ≡ true → SlotFacts t k
+  pub disjoint : (i k : ℕ) → i < k → k < slotCount → present t i ≡ true → present t k ≡ true → Disjoint t i k
+  pub entry : (n : ℕ) → n < entryCount → holdsEntry t n ≡ true → EntryFacts t n

@@ -1,0 +1,5 @@
+pub mod Facts
+pub mod Begins
+pub mod SameContent
+pub mod Bodies
+pub mod Order

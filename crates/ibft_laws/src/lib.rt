@@ -1,0 +1,1 @@
+// Laws of what an accepted table holds: no code.

@@ -1,0 +1,26 @@
+-- `led_by` meets its contract: one place used, or none. Assumes nothing.
+use mathlib.Core.Path.{_≡_, ap, _∙_}
+use native.Mathlib.Omega.{arith}
+use borrow.Author.Tests.{lt-ltb, le-ltb}
+use Rattle.octets.specs.Counting.{tabulate}
+use Rattle.ibft_table.specs.Layout.{targetCount}
+use Rattle.ibft_table.specs.Verdict.{refusalOf}
+use Rattle.ibft_table.specs.Login.{placed}
+use Rattle.ibft_table.specs.declared.login.LoginOrder.{LoginOrder}
+use borrow.Author.Needs.{needs}
+use Rattle.ibft_table.proofs.login.led_by.Statement.{statement}
+use Rattle.ibft_table.proofs.login.led_by.Tie as tie
+
+then-requires : tie.Need-then-requires
+then-requires c κs = omega (arith, ap (λ (o : LoginOrder). o .used) (c .before .none .ensures))
+
+returns : tie.Need-returns
+unfolding placed refusalOf tabulate
+returns c = c .then .ensures ∙ rw (c .before .before .none .ensures, lt-ltb (c .before .before .before .args .lead) targetCount (omega arith))
+
+returns-2 : tie.Need-returns-2
+unfolding placed refusalOf tabulate
+returns-2 c = rw (le-ltb (c .before .before .args .lead) targetCount (omega arith)) (c .before .none .ensures)
+
+pub led-by-spec : {M : Type 1} → statement M
+led-by-spec = tie.close (tie.spec (search needs) then-requires returns returns-2)

@@ -1,0 +1,79 @@
+-- Worked tables and the verdict of each, by computation: as one list under one theorem.
+use mathlib.Core.Path.{_≡_, refl}
+use mathlib.Core.List.{List, [], _∷_, _++_, map}
+use Prim.Native.Nat.{ℕ, _+_, _-_}
+use lib.ListN.{take}
+use Rattle.octets.specs.Octets.{le16, le32, zeros, checksum, write}
+use Rattle.ibft_table.specs.Layout.{control, controlAt, controlEnd, wordAt, kindOf, indexOf, chapAt}
+use Rattle.ibft_table.specs.Check.{checkOf}
+use Rattle.ibft_table.specs.Computing.{computing}
+use Rattle.ibft_table.specs.declared.verdict.Verdict.{Verdict}
+use Rattle.ibft_table.specs.declared.verdict.Verdict.the-variants.{Accepted, Refused}
+
+-- a table of n bytes in which nothing is present: header, Control, zero bytes
+blank : ℕ → List ℕ
+blank n =
+    0x69 ∷ 0x42 ∷ 0x46 ∷ 0x54 ∷ (le32 n ++ (1 ∷ (zeros (controlAt - 9)
+    ++ (control .id ∷ control .version ∷ (le16 (control .length) ++ zeros (n - controlAt - 4))))))
+
+-- slot k's structure put at `start`: its Control word, its first bytes, its flags
+place : ℕ → ℕ → ℕ → List ℕ → List ℕ
+place k start flags t =
+    write (write t (wordAt k) (le16 start)) start
+    ((kindOf k) .id ∷ (kindOf k) .version ∷ (le16 ((kindOf k) .length) ++ (indexOf k ∷ flags ∷ [])))
+
+-- the words of a string: its length and its offset
+words : ℕ → ℕ → ℕ → List ℕ → List ℕ
+words at size offset t = write t at (le16 size ++ le16 offset)
+
+-- the checksum set right
+sealed : List ℕ → List ℕ
+sealed t = write t 9 (checksum t 9 ∷ [])
+
+-- one byte changed, the sum mended
+changed : ℕ → ℕ → List ℕ → List ℕ
+changed at byte t = sealed (write t at (byte ∷ []))
+
+bare : List ℕ
+bare = sealed (blank controlEnd)
+
+-- bench case 5: Target 0 alone, flags 1, CHAP name `depot7`, reverse name `7`
+case5 : List ℕ
+case5 =
+    sealed
+    (write (words 118 1 131 (words 110 6 126 (place 2 72 1 (blank 133)))) 126 (0x64 ∷ 0x65 ∷ 0x70 ∷ 0x6F ∷ 0x74 ∷ 0x37 ∷ []))
+
+-- NIC 0 and Target 0 share bytes, the initiator and NIC 1 too
+crossed : List ℕ
+crossed = sealed (place 3 192 0 (place 0 176 0 (place 2 96 0 (place 1 72 0 (blank 294)))))
+
+record Case : Type 0 where
+  table : List ℕ
+  verdict : Verdict
+
+accepts : List ℕ → Case
+accepts t = record { table = t; verdict = Accepted }
+
+refuses : ℕ → ℕ → List ℕ → Case
+refuses number place t = record { table = t; verdict = Refused (record { number = number; place = place }) }
+
+cases : List Case
+cases =
+    accepts bare
+    ∷ accepts case5
+    ∷ refuses 3 0 (take 47 bare)
+    ∷ refuses 5 4 (take 132 case5)
+    ∷ refuses 6 9 (write case5 20 (1 ∷ []))
+    ∷ refuses 8 10 (changed 12 0x41 case5)
+    ∷ refuses 10 77 (changed 77 0x11 case5)
+    ∷ refuses 12 60 (changed 61 0xFF case5)
+    ∷ refuses 19 104 (changed (72 + chapAt) 3 case5)
+    ∷ refuses 14 60 crossed
+    ∷ refuses 15 110 (changed 112 125 case5)
+    -- length 0 with another offset is present and empty, and no zero byte stands there
+    ∷ refuses 16 110 (changed 110 0 case5)
+    ∷ []
+
+judged : map (λ (c : Case). checkOf (c .table)) cases ≡ map (λ (c : Case). c .verdict) cases
+unfolding computing blank place words sealed changed bare case5 crossed accepts refuses cases
+judged = refl

@@ -1,0 +1,13 @@
+pub mod Layout
+pub mod Shapes
+pub mod Verdict
+pub mod Table
+pub mod Check
+pub mod Record
+pub mod Readings
+pub mod Login
+pub mod Promises
+pub mod Computing
+pub mod LayoutCases
+pub mod CheckCases
+pub mod ReadingCases

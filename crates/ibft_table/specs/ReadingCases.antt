@@ -1,0 +1,94 @@
+-- Readings and login orders, worked out by computation. (Bench case 10, the PCI word, stands in LayoutCases.)
+use mathlib.Core.Path.{_≡_, refl}
+use mathlib.Core.List.{List, [], _∷_, _++_}
+use Prim.Native.Nat.{ℕ}
+use Rattle.octets.specs.Octets.{byte, le16, le32, zeros, checksum, write}
+use Rattle.ibft_table.specs.Readings.{targetIn, addressKindOf, structureOf, initiatorOf, nicOf, targetOf, entryOf, viewOf}
+use Rattle.ibft_table.specs.Login.{loginOrderOf}
+use Rattle.ibft_table.specs.Computing.{computing}
+use Rattle.ibft_table.specs.declared.address.AddressKind.the-variants.{Absent, Ipv4Mapped, Other}
+
+-- ---- addresses
+
+-- ten zero bytes, FF FF, then four
+mapped : List ℕ → List ℕ
+mapped four = zeros 10 ++ (0xFF ∷ 0xFF ∷ four)
+
+-- the source's example: 192.168.70.35
+example : List ℕ
+example = mapped (0xC0 ∷ 0xA8 ∷ 0x46 ∷ 0x23 ∷ [])
+
+example-last : byte example 15 ≡ 35
+unfolding computing example mapped
+example-last = refl
+
+-- all zeros; the example; ::ffff:0.0.0.0; one FF short; fe80::
+address-kinds : addressKindOf (zeros 16) ∷ addressKindOf example ∷ addressKindOf (mapped (zeros 4)) ∷ addressKindOf (zeros 10 ++ (0xFF ∷ zeros 5)) ∷ addressKindOf (0xFE ∷ 0x80 ∷ zeros 14) ∷ []
+    ≡ Absent ∷ Ipv4Mapped ∷ Ipv4Mapped ∷ Other ∷ Other ∷ []
+unfolding computing example mapped
+address-kinds = refl
+
+-- ---- a table of two targets, at 72 and 128, in this mode and with these flags
+
+targetBytes : ℕ → ℕ → List ℕ
+targetBytes index flags = 4 ∷ 1 ∷ 54 ∷ 0 ∷ index ∷ flags ∷ zeros 48
+
+unsummed : ℕ → ℕ → ℕ → List ℕ
+unsummed mode first second =
+    le32 0x54464269
+    ++ (le32 182
+    ++ (1 ∷ (zeros 39
+    ++ (1 ∷ 1 ∷ 18 ∷ 0 ∷ 0 ∷ mode ∷ (zeros 6
+    ++ (le16 72 ++ (le16 0 ++ (le16 128 ++ (zeros 6 ++ (targetBytes 0 first ++ (zeros 2 ++ targetBytes 1 second)))))))))))
+
+twoTargets : ℕ → ℕ → ℕ → List ℕ
+twoTargets mode first second = write (unsummed mode first second) 9 (checksum (unsummed mode first second) 9 ∷ [])
+
+-- ---- login orders: number, how many places are used, the places
+
+login : ℕ → ℕ → ℕ → List ℕ
+login mode first second =
+    let order = loginOrderOf (twoTargets mode first second) in
+    order .refusal .number ∷ order .used ∷ order .places
+
+-- multi mode: both, ascending, whoever is selected; the second alone. Single mode: nobody selected; the second; both;
+-- selected without valid counts for nothing, for the one and for both. A reserved flag: refused.
+login-orders : login 0 1 3 ∷ login 0 0 1 ∷ login 1 1 1 ∷ login 1 1 3 ∷ login 1 3 3 ∷ login 1 1 2 ∷ login 1 2 2 ∷ login 1 1 16 ∷ []
+    ≡ (0 ∷ 2 ∷ 0 ∷ 1 ∷ [])
+    ∷ (0 ∷ 1 ∷ 1 ∷ 255 ∷ [])
+    ∷ (0 ∷ 2 ∷ 0 ∷ 1 ∷ [])
+    ∷ (0 ∷ 2 ∷ 1 ∷ 0 ∷ [])
+    ∷ (0 ∷ 2 ∷ 0 ∷ 1 ∷ [])
+    ∷ (0 ∷ 1 ∷ 0 ∷ 255 ∷ [])
+    ∷ (0 ∷ 0 ∷ 255 ∷ 255 ∷ [])
+    ∷ (10 ∷ 0 ∷ 255 ∷ 255 ∷ [])
+    ∷ []
+unfolding computing login twoTargets unsummed targetBytes
+login-orders = refl
+
+-- ---- readings of such a table
+
+-- present: its ID, start and flags
+second-target : structureOf (twoTargets 0 1 3) 4 ≡ record { refusal = record { number = 0; place = 0 }; id = 4; start = 128; flags = 3 }
+unfolding computing twoTargets unsummed targetBytes
+second-target = refl
+
+-- missing is 22: initiator, NIC 1, Target 0's name; not there at all is 23: slot 5, NIC 2, Target 255, entry 13
+refusal-numbers : (initiatorOf (twoTargets 0 1 3)) .refusal .number
+    ∷ (nicOf (twoTargets 0 1 3) 1) .refusal .number
+    ∷ (entryOf (twoTargets 0 1 3) 2) .refusal .number
+    ∷ (structureOf (twoTargets 0 1 3) 5) .refusal .number
+    ∷ (nicOf (twoTargets 0 1 3) 2) .refusal .number
+    ∷ (targetOf (twoTargets 0 1 3) 255) .refusal .number
+    ∷ (entryOf (twoTargets 0 1 3) 13) .refusal .number
+    ∷ []
+    ≡ 22 ∷ 22 ∷ 22 ∷ 23 ∷ 23 ∷ 23 ∷ 23 ∷ []
+unfolding computing twoTargets unsummed targetBytes
+refusal-numbers = refl
+
+-- the check comes first, with its number and place; refused, every field is 0 and a view is empty
+check-first : (structureOf (twoTargets 0 1 16) 9 ≡ record { refusal = record { number = 10; place = 133 }; id = 0; start = 0; flags = 0 })
+    × ((targetOf (twoTargets 0 1 16) 0) .fields ≡ targetIn [])
+    × (viewOf (twoTargets 0 1 16) 2 ≡ [])
+unfolding computing twoTargets unsummed targetBytes
+check-first = (refl, refl, refl)

@@ -1,0 +1,42 @@
+// The check of a table: refusals 3 to 19, the first that applies.
+use crate::check_control::check_control;
+use crate::check_entries::check_entries;
+use crate::check_entries::heap_start;
+use crate::check_header::check_header;
+use crate::check_overlaps::check_overlaps;
+use crate::check_slots::check_slots;
+use crate::control::Control;
+use crate::layout::length_of;
+use crate::verdict::Verdict;
+ghost use Rattle.ibft_table.specs.Promises.{Check};
+
+// `iBFT`, little endian.
+const SIGNATURE: u32 = 0x54464269;
+
+// The header, and a table in which nothing is present: Control stands behind the header, and the table ends with it.
+const LEAST_LENT: usize = Control::AT as usize;
+
+const LEAST_LENGTH: u32 = Control::END as u32;
+
+pub fn check(t: &[u8]) -> Verdict
+    ensures { λ r. ⌜ Check (now (t .entry)) r ⌝ }
+{
+    let v = check_header(t, SIGNATURE, LEAST_LENT, LEAST_LENGTH);
+    if let Verdict::Refused(_) = v {
+        return v;
+    }
+    let v = check_control(t);
+    if let Verdict::Refused(_) = v {
+        return v;
+    }
+    let length = length_of(t);
+    let v = check_slots(t, length);
+    if let Verdict::Refused(_) = v {
+        return v;
+    }
+    let v = check_overlaps(t);
+    if let Verdict::Refused(_) = v {
+        return v;
+    }
+    check_entries(t, length, heap_start(t))
+}

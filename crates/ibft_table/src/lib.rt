@@ -1,0 +1,21 @@
+// The iSCSI Boot Firmware Table: its layout, the check, readings, the login order.
+pub mod address;
+pub mod check;
+mod check_control;
+mod check_entries;
+pub mod check_header;
+mod check_overlaps;
+mod check_slots;
+pub mod control;
+pub mod entry;
+pub mod header;
+pub mod initiator;
+pub mod layout;
+pub mod login;
+pub mod nic;
+pub mod pci;
+mod reading;
+pub mod structure;
+pub mod target;
+pub mod text;
+pub mod verdict;

@@ -1,0 +1,82 @@
+// The NIC structure.
+use crate::reading::refusal_of;
+use crate::structure::slot_verdict;
+use crate::structure::structure_part;
+use crate::text::Text;
+use crate::verdict::Refusal;
+use octets::read::byte_at;
+use octets::read::six_at;
+use octets::read::sixteen_at;
+use octets::read::u16_at;
+ghost use mathlib.Core.Path.{_≡_};
+ghost use Rattle.ibft_table.specs.Layout.{nicSlot};
+ghost use Rattle.ibft_table.specs.Readings.{nicIn, nicOf};
+
+pub struct Nic {
+    pub flags: u8,
+    pub address: [u8; 16],
+    pub prefix: u8,
+    pub origin: u8,
+    pub gateway: [u8; 16],
+    pub dns: [u8; 16],
+    pub second_dns: [u8; 16],
+    pub dhcp: [u8; 16],
+    pub vlan: u16,
+    pub mac: [u8; 6],
+    pub pci: u16,
+    pub host: Text,
+}
+
+impl Nic {
+    pub const ID: u8 = 3;
+
+    pub const VERSION: u8 = 1;
+
+    pub const LENGTH: u16 = 102;
+    // The mask of the flag bits that are not named (flag bits 0 to 2: valid, selected, global).
+    pub const RESERVED: u8 = 0xF8;
+
+    // The slot of NIC n. (For a large n no `u8` holds it.)
+    pub(crate) fn slot(n: u8) -> u16
+        ensures { λ r. ⌜ r ≡ nicSlot n ⌝ }
+    {
+        1 + 2 * n as u16
+    }
+
+    // The NIC whose first byte is the part's.
+    pub fn read(part: &[u8]) -> Nic
+        ensures { λ r. ⌜ r ≡ nicIn (now (part .entry)) ⌝ }
+    {
+        Nic {
+            flags: byte_at(part, 5),
+            address: sixteen_at(part, 6),
+            prefix: byte_at(part, 22),
+            origin: byte_at(part, 23),
+            gateway: sixteen_at(part, 24),
+            dns: sixteen_at(part, 40),
+            second_dns: sixteen_at(part, 56),
+            dhcp: sixteen_at(part, 72),
+            vlan: u16_at(part, 88),
+            mac: six_at(part, 90),
+            pci: u16_at(part, 96),
+            host: Text::read(part, 98),
+        }
+    }
+}
+
+pub struct NicReading {
+    pub refusal: Refusal,
+    pub fields: Nic,
+}
+
+// NIC n.
+pub fn read_nic(t: &[u8], n: u8) -> NicReading
+    ensures { λ r. ⌜ r ≡ nicOf (now (t .entry)) n ⌝ }
+{
+    let slot = Nic::slot(n);
+    let verdict = slot_verdict(t, slot);
+    NicReading {
+        refusal: refusal_of(verdict),
+        fields: Nic::read(structure_part(t, slot, verdict)),
+    }
+}

@@ -1,0 +1,85 @@
+// The target structure.
+use crate::reading::refusal_of;
+use crate::structure::slot_verdict;
+use crate::structure::structure_part;
+use crate::text::Text;
+use crate::verdict::Refusal;
+use octets::read::byte_at;
+use octets::read::sixteen_at;
+use octets::read::u16_at;
+use octets::read::u64_at;
+ghost use mathlib.Core.Path.{_≡_};
+ghost use Rattle.ibft_table.specs.Layout.{targetSlot};
+ghost use Rattle.ibft_table.specs.Readings.{targetIn, targetOf};
+
+pub struct Target {
+    pub flags: u8,
+    pub address: [u8; 16],
+    pub socket: u16,
+    pub lun: u64,
+    pub chap_type: u8,
+    pub nic: u8,
+    pub name: Text,
+    pub chap_name: Text,
+    pub chap_secret: Text,
+    pub reverse_name: Text,
+    pub reverse_secret: Text,
+}
+
+impl Target {
+    pub const ID: u8 = 4;
+
+    pub const VERSION: u8 = 1;
+
+    pub const LENGTH: u16 = 54;
+    // The mask of the flag bits that are not named (flag bits 0 to 3: valid, selected, Radius CHAP, Radius rCHAP).
+    pub const RESERVED: u8 = 0xF0;
+
+    // The flag bits that the login order looks at.
+    pub const VALID: u8 = 1;
+
+    pub const SELECTED: u8 = 2;
+
+    // The slot of Target n. (For a large n no `u8` holds it.)
+    pub(crate) fn slot(n: u8) -> u16
+        ensures { λ r. ⌜ r ≡ targetSlot n ⌝ }
+    {
+        2 + 2 * n as u16
+    }
+
+    // The target whose first byte is the part's.
+    pub fn read(part: &[u8]) -> Target
+        ensures { λ r. ⌜ r ≡ targetIn (now (part .entry)) ⌝ }
+    {
+        Target {
+            flags: byte_at(part, 5),
+            address: sixteen_at(part, 6),
+            socket: u16_at(part, 22),
+            lun: u64_at(part, 24),
+            chap_type: byte_at(part, 32),
+            nic: byte_at(part, 33),
+            name: Text::read(part, 34),
+            chap_name: Text::read(part, 38),
+            chap_secret: Text::read(part, 42),
+            reverse_name: Text::read(part, 46),
+            reverse_secret: Text::read(part, 50),
+        }
+    }
+}
+
+pub struct TargetReading {
+    pub refusal: Refusal,
+    pub fields: Target,
+}
+
+// Target n.
+pub fn read_target(t: &[u8], n: u8) -> TargetReading
+    ensures { λ r. ⌜ r ≡ targetOf (now (t .entry)) n ⌝ }
+{
+    let slot = Target::slot(n);
+    let verdict = slot_verdict(t, slot);
+    TargetReading {
+        refusal: refusal_of(verdict),
+        fields: Target::read(structure_part(t, slot, verdict)),
+    }
+}

@@ -1,0 +1,132 @@
+// The bench program: reads a table, up to 4,096 bytes of standard input, and prints whether it is sound and what it says, or
+// the one refusal that applies. Numbers are decimal.
+use ibft_table::check::check;
+use ibft_table::entry::read_entry;
+use ibft_table::header::read_header;
+use ibft_table::login::LoginOrder;
+use ibft_table::login::login_order;
+use ibft_table::structure::read_structure;
+use ibft_table::verdict::Verdict;
+use octets::read::part;
+use octets::read::u32_at;
+
+const STDOUT: i32 = 1;
+
+fn print(text: &[u8]) {
+    io::write_all(STDOUT, text);
+}
+
+fn print_number(n: u64) {
+    io::print_decimal(STDOUT, n);
+}
+
+fn print_byte(b: u8) {
+    print_number(b as u64);
+}
+
+fn print_slot(slot: u8) {
+    match slot {
+        0 => print(b"initiator "),
+        1 => print(b"nic0 "),
+        2 => print(b"target0 "),
+        3 => print(b"nic1 "),
+        _ => print(b"target1 "),
+    }
+}
+
+// A structure's line, with its start and flags, where it is present.
+fn show_structure(t: &[u8], slot: u8) {
+    let structure = read_structure(t, slot);
+    if structure.refusal.number != 0 {
+        return;
+    }
+    print_slot(slot);
+    print_number(structure.start as u64);
+    print(b" ");
+    print_number(structure.flags as u64);
+    print(b"\n");
+}
+
+fn show_structures(t: &[u8]) {
+    for slot in 0..5u8 {
+        show_structure(t, slot);
+    }
+}
+
+// An entry's line, with its offset and length, where it is present.
+fn show_entry(t: &[u8], n: u8) {
+    let entry = read_entry(t, n);
+    if entry.refusal.number != 0 {
+        return;
+    }
+    print(b"entry ");
+    print_number(n as u64);
+    print(b" ");
+    print_number(entry.offset as u64);
+    print(b" ");
+    print_number(entry.length as u64);
+    print(b"\n");
+}
+
+fn show_entries(t: &[u8]) {
+    for n in 0..13u8 {
+        show_entry(t, n);
+    }
+}
+
+fn show_order(order: LoginOrder) {
+    let places = order.places;
+    print(b"order");
+    if order.used == 0 {
+        print(b" none");
+    }
+    if 0 < order.used {
+        print(b" ");
+        print_byte(places[0]);
+    }
+    if 1 < order.used {
+        print(b" ");
+        print_byte(places[1]);
+    }
+    print(b"\n");
+}
+
+fn show_mode(t: &[u8]) {
+    let reading = read_header(t);
+    if reading.header.flags % 2 == 1 {
+        print(b"control single\n");
+    } else {
+        print(b"control multi\n");
+    }
+}
+
+fn show_table(t: &[u8]) {
+    print(b"table ");
+    print_number(u32_at(t, 4) as u64);
+    print(b"\n");
+    show_mode(t);
+    show_structures(t);
+    show_entries(t);
+    show_order(login_order(t));
+}
+
+fn show_refusal(number: u8, place: u32) {
+    print(b"refused ");
+    print_number(number as u64);
+    print(b" ");
+    print_number(place as u64);
+    print(b"\n");
+}
+
+fn show(t: &[u8]) {
+    match check(t) {
+        Verdict::Accepted => show_table(t),
+        Verdict::Refused(refusal) => show_refusal(refusal.number, refusal.place),
+    }
+}
+
+fn main() {
+    let mut input = io::buffer();
+    let n = io::read_full(0, &mut input);
+    show(part(&input, 0, n));
+}

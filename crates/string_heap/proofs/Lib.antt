@@ -1,0 +1,5 @@
+pub mod Intervals
+pub mod TailsLaws
+pub mod StoredLaws
+pub mod HostLaws
+pub mod StartsLaws

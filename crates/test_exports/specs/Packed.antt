@@ -1,0 +1,35 @@
+-- How the readings' answers are packed into one 64-bit number: bits 0 to 7 the refusal's number, bits 8 to 31 its place, from
+-- bit 32 on what was read. The place is taken modulo 2^24, so that it keeps to its bits whatever the reading answers.
+-- Assumes nothing: these are definitions.
+use Prim.Native.Nat.{ℕ, _+_, _*_, _%_, _^_}
+use Rattle.octets.specs.Octets.{byte}
+use Rattle.ibft_table.specs.declared.verdict.Refusal.{Refusal}
+use Rattle.ibft_table.specs.declared.structure.StructureReading.{StructureReading}
+use Rattle.ibft_table.specs.declared.entry.EntryReading.{EntryReading}
+use Rattle.ibft_table.specs.declared.login.LoginOrder.{LoginOrder}
+use Rattle.ibft_table.specs.declared.address.AddressKind.{AddressKind}
+use Rattle.ibft_table.specs.declared.address.AddressKind.the-variants.{Absent, Ipv4Mapped, Other}
+use Rattle.ibft_table.specs.declared.pci.Pci.{Pci}
+
+abbrev pub packedRefusal : Refusal → ℕ
+packedRefusal r = r .number + 2 ^ 8 * (r .place % 2 ^ 24)
+
+-- ID, start and flags from bits 32, 40 and 56 on
+abbrev pub packedStructure : StructureReading → ℕ
+packedStructure r = packedRefusal (r .refusal) + 2 ^ 32 * r .id + 2 ^ 40 * r .start + 2 ^ 56 * r .flags
+
+-- how many places are used, and the two places, from bits 32, 40 and 48 on
+abbrev pub packedOrder : LoginOrder → ℕ
+packedOrder r = packedRefusal (r .refusal) + 2 ^ 32 * r .used + 2 ^ 40 * byte (r .places) 0 + 2 ^ 48 * byte (r .places) 1
+
+-- An entry's place has a number of its own: beside number and place of a refusal there is no room for both of its words.
+abbrev pub packedEntryPlace : EntryReading → ℕ
+packedEntryPlace r = r .offset + 2 ^ 16 * r .length
+
+abbrev pub packedAddressKind : AddressKind → ℕ
+packedAddressKind Absent = 0
+packedAddressKind Ipv4Mapped = 1
+packedAddressKind Other = 2
+
+abbrev pub packedPci : Pci → ℕ
+packedPci p = p .bus + 2 ^ 8 * p .device + 2 ^ 16 * p .function

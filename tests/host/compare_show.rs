@@ -1,0 +1,272 @@
+//! The program `show` held to model_show.rs. The environment variable SHOW names the program; each
+//! input is one run of it.
+
+use crate::model_check::check;
+use crate::model_show::{show, INPUT_LIMIT};
+use crate::refusals::Refusals;
+use crate::samples::SAMPLES;
+use crate::table_maker::{case_5, structures, with_texts, Table};
+use crate::table_shapes::some_of_each;
+use crate::tally::Tally;
+use std::ffi::OsString;
+use std::io::{ErrorKind, Write};
+use std::process::{ChildStdin, Command, Stdio};
+use std::time::Duration;
+
+const LEAST_INPUTS: usize = 300;
+const OF_EACH_SHAPE: usize = 12;
+
+/// How an input reaches the program: whole, or in pieces with a pause between.
+const WHOLE: usize = usize::MAX;
+const PAUSE: Duration = Duration::from_millis(3);
+
+/// One input of the program: a name, the bytes, and the size of the pieces they come in.
+#[derive(Clone)]
+struct Fed {
+    name: &'static str,
+    bytes: Vec<u8>,
+    piece: usize,
+}
+
+fn fed(name: &'static str, bytes: Vec<u8>) -> Fed {
+    Fed {
+        name,
+        bytes,
+        piece: WHOLE,
+    }
+}
+
+// ---- Running the program ----
+
+/// A program that has read enough may close its input before all is written.
+fn feed(mut stdin: ChildStdin, input: &Fed) -> std::io::Result<()> {
+    for piece in input
+        .bytes
+        .chunks(input.piece.min(input.bytes.len().max(1)))
+    {
+        match stdin.write_all(piece) {
+            Err(error) if error.kind() == ErrorKind::BrokenPipe => return Ok(()),
+            other => other?,
+        }
+        if input.piece != WHOLE {
+            std::thread::sleep(PAUSE);
+        }
+    }
+    Ok(())
+}
+
+/// What the program prints. Nothing may go to standard error, and no signal may end it.
+fn printed(program: &OsString, input: &Fed) -> std::io::Result<String> {
+    let mut child = Command::new(program)
+        .stdin(Stdio::piped())
+        .stdout(Stdio::piped())
+        .stderr(Stdio::piped())
+        .spawn()?;
+    feed(child.stdin.take().unwrap(), input)?;
+    let output = child.wait_with_output()?;
+    if output.status.code().is_none() || !output.stderr.is_empty() {
+        let said = String::from_utf8_lossy(&output.stderr).into_owned();
+        return Ok(format!("{}, standard error: {}", output.status, said));
+    }
+    Ok(String::from_utf8_lossy(&output.stdout).into_owned())
+}
+
+fn compare_one(program: &OsString, input: &Fed, counts: &mut (Tally, Refusals)) -> bool {
+    let expected = show(&input.bytes);
+    let answer = match printed(program, input) {
+        Ok(answer) => answer,
+        Err(error) => format!("cannot run {:?}: {}", program, error),
+    };
+    if answer != expected {
+        println!(
+            "show: DIFFERENCE in '{}', {} bytes",
+            input.name,
+            input.bytes.len()
+        );
+        println!("  program:\n{}", answer);
+        println!("  document:\n{}", expected);
+        return false;
+    }
+    let table = &input.bytes[..input.bytes.len().min(INPUT_LIMIT)];
+    let verdict = check(table);
+    counts.0.count(input.name, usize::from(verdict.is_err()));
+    if let Err(refusal) = verdict {
+        counts.1.count(table, &refusal);
+    }
+    true
+}
+
+// ---- Inputs ----
+
+/// The stored outputs are those of the reading.
+fn stored_outputs_hold() -> bool {
+    SAMPLES.iter().all(|sample| {
+        let shown = show(sample.table);
+        if shown != sample.shown {
+            println!(
+                "show: samples/{}.txt is not what the document asks:",
+                sample.name
+            );
+            println!("{}", shown);
+        }
+        shown == sample.shown
+    })
+}
+
+/// Document 01's own example, letter by letter, for the table that it describes.
+fn example_holds() -> bool {
+    let example = "table 133\ncontrol multi\ntarget0 72 1\nentry 3 126 6\nentry 5 131 1\norder 0\n";
+    let holds = SAMPLES[0].shown == example && SAMPLES[0].table == case_5().bytes;
+    if !holds {
+        println!(
+            "show: samples/{} is not the document's example",
+            SAMPLES[0].name
+        );
+    }
+    holds
+}
+
+fn samples() -> Vec<Fed> {
+    let mut inputs = Vec::new();
+    for sample in &SAMPLES {
+        inputs.push(fed("samples", sample.table.to_vec()));
+        inputs.push(fed("samples", with_rest(sample.table, 300)));
+        let mut broken = sample.table.to_vec();
+        broken[9] ^= 1;
+        inputs.push(fed("samples", broken));
+    }
+    inputs
+}
+
+/// The bytes and as many more, which are no part of the table.
+fn with_rest(table: &[u8], more: usize) -> Vec<u8> {
+    let mut bytes = table.to_vec();
+    bytes.resize(table.len() + more, 0x5A);
+    bytes
+}
+
+/// A good table of just that Length: Target 1 alone, a string at the very end.
+fn table_of_length(length: usize) -> Vec<u8> {
+    let mut table: Table = structures(&[4]);
+    let end = table.length();
+    table.append_bytes(&vec![0; length - end - 3]);
+    table.append_text(9, b"ab");
+    table.set_flags(4, 3);
+    table.mended().bytes
+}
+
+/// The input's limit: a table that fills it, one that is a byte longer, and bytes behind a table.
+fn about_the_limit() -> Vec<Fed> {
+    let mut inputs = Vec::new();
+    for length in [
+        INPUT_LIMIT - 1,
+        INPUT_LIMIT,
+        INPUT_LIMIT + 1,
+        INPUT_LIMIT + 904,
+        65_536,
+    ] {
+        let table = table_of_length(length);
+        for more in [0, 1, 5_000, 300_000] {
+            inputs.push(fed("about 4,096 bytes", with_rest(&table, more)));
+        }
+    }
+    for size in [0, 1, 3, 4, 47, 48, 49, 65, 66] {
+        inputs.push(fed("few bytes", with_rest(b"", size)));
+        let cut = SAMPLES[0].table[..size].to_vec();
+        inputs.push(fed("few bytes", cut));
+    }
+    inputs
+}
+
+/// What the program reads at once is less than there is.
+fn in_pieces() -> Vec<Fed> {
+    let mut inputs = Vec::new();
+    for sample in &SAMPLES {
+        for piece in [41, 100, 512] {
+            inputs.push(Fed {
+                name: "in pieces",
+                bytes: sample.table.to_vec(),
+                piece,
+            });
+        }
+    }
+    for length in [INPUT_LIMIT, INPUT_LIMIT + 1] {
+        inputs.push(Fed {
+            name: "in pieces",
+            bytes: with_rest(&table_of_length(length), 700),
+            piece: 1_000,
+        });
+    }
+    inputs
+}
+
+/// Tables whose output has something of its own: an empty string and a missing one, both modes, a
+/// selected target, none that is valid, a host name with a dot at its end.
+fn told_apart() -> Vec<Fed> {
+    let mut tables = vec![
+        structures(&[]),
+        structures(&[0]),
+        with_texts(&[0], &[(0, b"")]),
+        with_texts(&[1, 3], &[(1, b"a."), (7, b"a.b")]),
+        with_texts(&[1], &[(1, b"a.b.")]),
+        with_texts(&[0], &[(0, &[b'n'; 223])]),
+        with_texts(&[0], &[(0, &[b'n'; 224])]),
+        structures(&[0, 1, 2, 3, 4]),
+    ];
+    for n in 0..32 {
+        let mut table = structures(&[2, 4]);
+        table.set_control_flags(n >> 4);
+        table.set_flags(2, n & 3);
+        table.set_flags(4, n >> 2 & 3);
+        tables.push(table);
+    }
+    let inputs = tables.into_iter().map(|table| table.mended().bytes);
+    inputs.map(|bytes| fed("told apart", bytes)).collect()
+}
+
+fn shapes() -> Vec<Fed> {
+    let inputs = some_of_each(OF_EACH_SHAPE).into_iter();
+    inputs
+        .map(|input| fed(input.shape, input.table.bytes().to_vec()))
+        .collect()
+}
+
+pub fn compare() -> bool {
+    let program = match std::env::var_os("SHOW") {
+        Some(program) => program,
+        None => {
+            println!("show: SHOW does not say where the program is");
+            return false;
+        }
+    };
+    if !stored_outputs_hold() || !example_holds() {
+        return false;
+    }
+    let inputs = [
+        samples(),
+        about_the_limit(),
+        in_pieces(),
+        told_apart(),
+        shapes(),
+    ]
+    .concat();
+    let mut counts = (
+        Tally::new("show", &["shown", "refused"]),
+        Refusals::default(),
+    );
+    if !inputs
+        .iter()
+        .all(|input| compare_one(&program, input, &mut counts))
+    {
+        return false;
+    }
+    let (tally, refusals) = counts;
+    tally.print();
+    refusals.print("refused");
+    let unmet: Vec<u64> = (3..=19).filter(|n| !refusals.is_met(*n)).collect();
+    if !unmet.is_empty() {
+        println!("show: no input has the refusals {:?}", unmet);
+        return false;
+    }
+    tally.is_enough(LEAST_INPUTS)
+}

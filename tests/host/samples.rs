@@ -1,0 +1,25 @@
+//! The tables of samples/, and what `show` prints for each.
+
+pub struct Sample {
+    pub name: &'static str,
+    pub table: &'static [u8],
+    pub shown: &'static str,
+}
+
+macro_rules! sample {
+    ($name:literal) => {
+        Sample {
+            name: $name,
+            table: include_bytes!(concat!("../../samples/", $name, ".ibft")),
+            shown: include_str!(concat!("../../samples/", $name, ".txt")),
+        }
+    };
+}
+
+pub const SAMPLES: [Sample; 5] = [
+    sample!("case-5"),
+    sample!("ipxe-one-target"),
+    sample!("ipxe-mutual-chap"),
+    sample!("ipxe-two-targets"),
+    sample!("ovmf-one-target"),
+];
