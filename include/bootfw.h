@@ -1,6 +1,6 @@
 /*
  * bootfw.h: the C interface of libbootfw.a, for firmware that looks for an
- * iSCSI Boot Firmware Table (iBFT) in low memory and checks it.
+ * iSCSI Boot Firmware Table (iBFT) in low memory, checks it or builds one.
  *
  * docs/C-INTERFACE.md says how to link, what a caller has to keep and how an
  * answer is split. Offsets below count bytes from the start of the structure.
@@ -273,6 +273,16 @@ uint64_t ibft_scan(const uint8_t *memory, size_t memory_size, uint64_t address);
  * lent than its Length. Answers 0 with place 0; or the first of 3 to 19 that
  * applies, with its place. Bits 32-63 are 0. Writes nothing. */
 uint64_t ibft_check(const uint8_t *table, size_t table_size);
+
+/* Builds the shortest table of a record into the room. The record is one struct
+ * ibft_record; its strings stand in the range lent for them. The room shares no
+ * byte with either: that is taken on trust. Answers 0 with place 0 and the
+ * table's Length, and the room past that keeps its bytes; or the first of 25, 8,
+ * 10, 19, 24, 17, 20, 18 and 21 that applies, with its place and Length 0, and
+ * writes nothing. */
+uint64_t ibft_build(const uint8_t *record, size_t record_size,
+                    const uint8_t *strings, size_t strings_size,
+                    uint8_t *room, size_t room_size);
 
 #ifdef __cplusplus
 }

@@ -4,14 +4,20 @@
 //! the machine does weighs on all alike. Each call goes through a pointer that is read as volatile:
 //! the compiler can neither inline the callee nor know that a second call answers the same.
 
+mod benchmark_build;
 #[allow(dead_code)] // compare.rs uses all of it
 mod library;
 #[allow(dead_code)]
 mod model_layout;
 #[allow(dead_code)]
+mod model_record_range;
+#[allow(dead_code)]
+mod record_maker;
+#[allow(dead_code)]
 mod seeded;
 #[allow(dead_code)]
 mod table_maker;
+mod twin_build;
 mod twin_check;
 mod twins;
 
@@ -140,4 +146,6 @@ fn main() {
         let what = format!("check of the {} table, {} bytes", which, table.length());
         measure(&what, 1_000, 300, |c| check_by(c, &table.bytes));
     }
+
+    benchmark_build::measure_builds();
 }

@@ -6,26 +6,39 @@
 //! later gets its reading and its comparison beside these. The environment variable SHOW names the
 //! program.
 
+mod build_refusals;
+mod build_sights;
+mod compare_build;
 mod compare_check;
 mod compare_checksum;
 mod compare_host_name;
+mod compare_least;
 mod compare_login;
 mod compare_readings;
 mod compare_scan;
 mod compare_show;
+mod good_records;
 mod good_tables;
+mod known_builds;
+mod lent_build;
 mod lent_memory;
 mod lent_table;
 mod library;
 mod model_answer;
+mod model_build;
 mod model_check;
 mod model_checksum;
 mod model_host_name;
 mod model_layout;
 mod model_login;
 mod model_readings;
+mod model_record;
+mod model_record_range;
 mod model_scan;
 mod model_show;
+mod record_damage;
+mod record_maker;
+mod record_shapes;
 mod refusals;
 mod samples;
 mod seeded;
@@ -41,7 +54,9 @@ fn main() {
         && compare_check::compare()
         && compare_readings::compare()
         && compare_login::compare()
-        && compare_show::compare();
+        && compare_show::compare()
+        && compare_build::compare()
+        && compare_least::compare();
     if !all_agree {
         std::process::exit(1);
     }

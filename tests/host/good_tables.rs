@@ -158,7 +158,7 @@ pub fn put_filled(seeded: &mut Seeded, table: &mut Table, slot: usize, start: us
 }
 
 /// Bytes that are not zero, then zeros.
-fn oem_text(seeded: &mut Seeded, size: usize) -> Vec<u8> {
+pub fn oem_text(seeded: &mut Seeded, size: usize) -> Vec<u8> {
     let kept = seeded.between(0, size);
     let mut text: Vec<u8> = (0..kept).map(|_| seeded.between(1, 255) as u8).collect();
     text.resize(size, 0);
@@ -269,7 +269,7 @@ pub fn any_text(seeded: &mut Seeded, entry: usize, longest: usize) -> Vec<u8> {
     }
 }
 
-fn any_host_name(seeded: &mut Seeded) -> Vec<u8> {
+pub fn any_host_name(seeded: &mut Seeded) -> Vec<u8> {
     match seeded.between(0, 9) {
         0 => b"a.".to_vec(),
         1 => dots_between(128, b'a'),

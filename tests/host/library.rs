@@ -7,9 +7,20 @@
 pub type Reading = unsafe extern "C" fn(*const u8, usize, *mut u8, usize) -> u64;
 pub type NumberedReading = unsafe extern "C" fn(*const u8, usize, u8, *mut u8, usize) -> u64;
 
+/// A build: record, strings and room.
+pub type Build = unsafe extern "C" fn(*const u8, usize, *const u8, usize, *mut u8, usize) -> u64;
+
 extern "C" {
     pub fn ibft_scan(memory: *const u8, memory_size: usize, address: u64) -> u64;
     pub fn ibft_check(table: *const u8, table_size: usize) -> u64;
+    pub fn ibft_build(
+        record: *const u8,
+        record_size: usize,
+        strings: *const u8,
+        strings_size: usize,
+        room: *mut u8,
+        room_size: usize,
+    ) -> u64;
 
     pub fn test_host_name(name: *const u8, name_size: usize) -> u8;
     pub fn test_checksum(bytes: *const u8, size: usize, at: usize) -> u8;

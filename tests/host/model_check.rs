@@ -13,7 +13,7 @@ pub struct Refusal {
 
 pub type Verdict = Result<(), Refusal>;
 
-fn refuse_if(applies: bool, number: u64, place: u64) -> Verdict {
+pub fn refuse_if(applies: bool, number: u64, place: u64) -> Verdict {
     if applies {
         Err(Refusal { number, place })
     } else {
@@ -124,7 +124,7 @@ fn sum(bytes: &[u8]) -> u64 {
     bytes.iter().map(|byte| u64::from(*byte)).sum()
 }
 
-fn is_zero_after_first_zero(field: &[u8]) -> bool {
+pub fn is_zero_after_first_zero(field: &[u8]) -> bool {
     match field.iter().position(|byte| *byte == 0) {
         Some(first) => field[first..].iter().all(|byte| *byte == 0),
         None => true,

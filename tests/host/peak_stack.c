@@ -7,6 +7,8 @@
  * paint's own value would be missed, so each call runs on two paints.
  */
 #define _GNU_SOURCE
+#include "peak_stack.h"
+
 #include <bootfw.h>
 
 #include <stdbool.h>
@@ -41,21 +43,10 @@ enum {
     LONGEST_OTHER = 255,
 };
 
-struct call {
-    void (*run)(struct call *call);
-    const uint8_t *bytes;
-    size_t size;
-    uint64_t address;
-    uint64_t answer;
-    const uint8_t *stack_pointer; /* just before the call */
-};
-
 static uint8_t stack[STACK_SIZE] __attribute__((aligned(4096)));
 static uint8_t memory[WINDOW_SIZE];
 static uint8_t name[LONG_NAME];
 static struct call *current;
-
-#define STACK_POINTER(into) __asm__ volatile("mov %%rsp, %0" : "=r"(into))
 
 static void run_scan(struct call *call)
 {
@@ -114,8 +105,7 @@ static size_t peak(struct call *call)
     return first > second ? first : second;
 }
 
-/* Measures the call; its answer shows that it ran as meant. */
-static void measure(const char *what, struct call call, uint64_t answer, size_t limit)
+void measure(const char *what, struct call call, uint64_t answer, size_t limit)
 {
     size_t used = peak(&call);
 
@@ -298,6 +288,7 @@ int main(void)
         name[i] = i % 2 == 0 ? 'a' : '.';
     measure_scans();
     measure_checks();
+    measure_builds();
     measure_host_name("host name, 255 bytes with 127 dots", 255);
     measure_host_name("host name, 20001 bytes with 10000 dots", sizeof name);
     return 0;

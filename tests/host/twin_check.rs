@@ -8,20 +8,20 @@ const CONTROL: usize = 48;
 const CONTROL_END: usize = 66;
 const FIRST_START: usize = 72;
 
-struct Slot {
-    id: u8,
-    index: u8,
-    length: usize,
-    named_flags: u8,
+pub struct Slot {
+    pub id: u8,
+    pub index: u8,
+    pub length: usize,
+    pub named_flags: u8,
 }
 
-struct Entry {
-    slot: usize,
-    at: usize,
-    longest: usize,
+pub struct Entry {
+    pub slot: usize,
+    pub at: usize,
+    pub longest: usize,
 }
 
-static SLOTS: [Slot; 5] = [
+pub static SLOTS: [Slot; 5] = [
     slot(2, 0, 74, 0x03),
     slot(3, 0, 102, 0x07),
     slot(4, 0, 54, 0x0F),
@@ -38,7 +38,7 @@ const fn slot(id: u8, index: u8, length: usize, named_flags: u8) -> Slot {
     }
 }
 
-static ENTRIES: [Entry; 13] = [
+pub static ENTRIES: [Entry; 13] = [
     entry(0, 70, 223),
     entry(1, 98, 255),
     entry(2, 34, 223),
@@ -59,7 +59,7 @@ const fn entry(slot: usize, at: usize, longest: usize) -> Entry {
 }
 
 /// Number and place.
-struct Refusal(u64, usize);
+pub struct Refusal(pub u64, pub usize);
 
 pub unsafe extern "C" fn rust_check(table: *const u8, size: usize) -> u64 {
     match check(std::slice::from_raw_parts(table, size)) {
@@ -93,11 +93,11 @@ fn check(lent: &[u8]) -> Result<(), Refusal> {
     check_entries(table, &starts)
 }
 
-fn word(table: &[u8], at: usize) -> usize {
+pub fn word(table: &[u8], at: usize) -> usize {
     usize::from(u16::from_le_bytes([table[at], table[at + 1]]))
 }
 
-fn has_zero_tail(field: &[u8]) -> bool {
+pub fn has_zero_tail(field: &[u8]) -> bool {
     let mut tail = field.iter().skip_while(|byte| **byte != 0);
     tail.all(|byte| *byte == 0)
 }
@@ -203,7 +203,7 @@ fn is_label(label: &[u8]) -> bool {
             .all(|byte| byte.is_ascii_alphanumeric() || *byte == b'-')
 }
 
-fn is_host_name(name: &[u8]) -> bool {
+pub fn is_host_name(name: &[u8]) -> bool {
     match name.strip_suffix(b".") {
         Some(label) => is_label(label),
         None => name.split(|byte| *byte == b'.').all(is_label),

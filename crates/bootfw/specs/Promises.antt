@@ -6,6 +6,9 @@ use Rattle.scan.specs.Promises.{Promise}
 use Rattle.ibft_table.specs.Verdict.{refusalOf}
 use Rattle.ibft_table.specs.Check.{checkOf}
 use Rattle.ibft_table.specs.Promises.{Check}
+use Rattle.build_rules.specs.Build.{answerOf}
+use Rattle.build_rules.specs.Promises.{Promise as Build}
+use lib.ListN.{length}
 use Rattle.bootfw.specs.Pack.{Packs}
 
 -- `ibft_scan`: the scan's answer, packed; and what a scan promises of it (lowest, sound, exact refusals)
@@ -17,3 +20,10 @@ pub record ScanAnswer (memory : List ℕ) (address r : ℕ) : Type 0 where
 pub record CheckAnswer (table : List ℕ) (r : ℕ) : Type 0 where
   pub answer : Packs ((refusalOf (checkOf table)) .number) ((refusalOf (checkOf table)) .place) 0 r
   pub promise : Check table (checkOf table)
+
+-- `ibft_build`: the build's number, place and Length, packed; and what the build promises of the answer and of the room that held
+-- `before` and holds `after`
+pub record BuildAnswer (range strings before after : List ℕ) (r : ℕ) : Type 0 where
+  pub answer : Packs ((answerOf range strings (length before)) .refusal .number) ((answerOf range strings (length before)) .refusal .place)
+      ((answerOf range strings (length before)) .length) r
+  pub promise : Build range strings before (answerOf range strings (length before)) after

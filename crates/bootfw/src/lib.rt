@@ -3,7 +3,7 @@ use ibft_table::verdict::Verdict;
 use scan::Family;
 ghost use Prim.Native.Nat.{_<_, _^_};
 ghost use Rattle.bootfw.specs.Pack.{Packs};
-ghost use Rattle.bootfw.specs.Promises.{ScanAnswer, CheckAnswer};
+ghost use Rattle.bootfw.specs.Promises.{ScanAnswer, CheckAnswer, BuildAnswer};
 
 // An answer as one number: bits 0 to 7 the number, bits 8 to 31 the place or the address, bits 32 to 63 the Length.
 fn packed(number: u8, place: u32, length: u32) -> u64
@@ -31,4 +31,15 @@ pub extern "C" fn ibft_check(table: &[u8]) -> u64
         Verdict::Accepted => packed(0, 0, 0),
         Verdict::Refused(refusal) => packed(refusal.number, refusal.place, 0),
     }
+}
+
+// Builds a table from a record range and the strings it points into: number, place and Length. A refused build leaves the room
+// as it was. The room must share no byte with the record or the strings.
+#[no_mangle]
+pub extern "C" fn ibft_build(range: &[u8], strings: &[u8], room: &mut [u8]) -> u64
+    ensures { λ r. ⌜ BuildAnswer (now (range .entry)) (now (strings .entry)) (now (room .entry)) (now (room .exit)) r ⌝ }
+{
+    let built = ibft_build::build::build(range, strings, room);
+    let refusal = built.refusal;
+    packed(refusal.number, refusal.place, built.length)
 }

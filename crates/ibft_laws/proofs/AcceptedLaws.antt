@@ -23,9 +23,9 @@ use Rattle.ibft_table.specs.Table.{lengthOf, startOf, present, endOf, heapOf, s
 use Rattle.ibft_table.specs.Check.{padded, headerTests, alien, reservedSet, controlTests, misplaced, slotTests, overlap, overlapTests, entryTests, checkTests, checkOf}
 use Rattle.ibft_table.specs.declared.verdict.Verdict.the-variants.{Accepted}
 use Rattle.ibft_laws.specs.Facts.{HeaderFacts, StartFacts, ControlFacts, SlotFacts, EntryFacts, Disjoint, Facts}
-use Rattle.ibft_laws.proofs.TestLaws.{and-other, and-no, or-both, or-no, differs-no, same-differs}
-use Rattle.ibft_laws.proofs.HeapLaws.{heap-least}
-use Rattle.ibft_laws.proofs.VerdictLaws.{passes, accept-cons, accept-none, append-accepted, both-accept, each-accepts, all-accept}
+use Rattle.octets.proofs.TestLaws.{and-other, and-no, or-both, or-no, differs-no, same-differs}
+use Rattle.ibft_table.proofs.CheckLaws.{heap-after-control}
+use Rattle.ibft_table.proofs.VerdictLaws.{passes, accept-cons, accept-none, append-accepted, append-passes, gather-passes, gather-accepts}
 
 module _ (signature leastLent leastLength : ℕ) (t : List ℕ) where
   pub header-facts : firstOf (headerTests signature leastLent leastLength t) ≡ Accepted → HeaderFacts signature leastLent leastLength t
@@ -213,16 +213,16 @@ module _ (t : List ℕ) where
   pub accepted-tests : checkOf t ≡ Accepted → Groups t
   unfolding checkOf checkTests
   accepted-tests ok =
-      let a = both-accept (headerTests 0x54464269 48 66 t) _ ok in
-      let b = both-accept (controlTests t) _ (a .1) in
-      let c = both-accept (gather (slotTests t) 0 slotCount) _ (b .1) in
-      let d = both-accept (gather (overlapTests t) 0 slotCount) _ (c .1) in
+      let a = append-passes (headerTests 0x54464269 48 66 t) _ ok in
+      let b = append-passes (controlTests t) _ (a .1) in
+      let c = append-passes (gather (slotTests t) 0 slotCount) _ (b .1) in
+      let d = append-passes (gather (overlapTests t) 0 slotCount) _ (c .1) in
       record {
         header = a .0;
         control = b .0;
-        slot = λ k h. each-accepts (slotTests t) 0 slotCount (c .0) k (omega arith) (omega arith);
-        overlaps = λ k h. each-accepts (overlapTests t) 0 slotCount (d .0) k (omega arith) (omega arith);
-        entry = λ n h. each-accepts (entryTests t) 0 entryCount (d .1) n (omega arith) (omega arith);
+        slot = λ k h. gather-passes (slotTests t) slotCount 0 k (c .0) (omega arith) (omega arith);
+        overlaps = λ k h. gather-passes (overlapTests t) slotCount 0 k (d .0) (omega arith) (omega arith);
+        entry = λ n h. gather-passes (entryTests t) entryCount 0 n (d .1) (omega arith) (omega arith);
       }
 
   pub tests-accepted : Groups t → checkOf t ≡ Accepted
@@ -230,9 +230,9 @@ module _ (t : List ℕ) where
   tests-accepted g =
       append-accepted (headerTests 0x54464269 48 66 t) _ (g .header)
       ∙ append-accepted (controlTests t) _ (g .control)
-      ∙ append-accepted (gather (slotTests t) 0 slotCount) _ (all-accept (slotTests t) 0 slotCount (λ k l h. g .slot k (omega arith)))
-      ∙ append-accepted (gather (overlapTests t) 0 slotCount) _ (all-accept (overlapTests t) 0 slotCount (λ k l h. g .overlaps k (omega arith)))
-      ∙ all-accept (entryTests t) 0 entryCount (λ n l h. g .entry n (omega arith))
+      ∙ append-accepted (gather (slotTests t) 0 slotCount) _ (gather-accepts (slotTests t) slotCount 0 (λ k l h. g .slot k (omega arith)))
+      ∙ append-accepted (gather (overlapTests t) 0 slotCount) _ (gather-accepts (overlapTests t) slotCount 0 (λ k l h. g .overlaps k (omega arith)))
+      ∙ gather-accepts (entryTests t) entryCount 0 (λ n l h. g .entry n (omega arith))
 
   pub accepted-facts : checkOf t ≡ Accepted → Facts t
   accepted-facts ok =
@@ -253,5 +253,5 @@ module _ (t : List ℕ) where
         control = control-accepted t (f .control);
         slot = λ k h. slot-accepted t k (f .slot k h);
         overlaps = λ k h. overlap-accepted t k (λ i l oni onk. f .disjoint i k l h oni onk);
-        entry = λ n h. entry-accepted t n (omega (arith, heap-least t)) (f .entry n h);
+        entry = λ n h. entry-accepted t n (omega (arith, heap-after-control t)) (f .entry n h);
       })

@@ -9,7 +9,7 @@ use native.Mathlib.Decide.{decLt}
 use native.Mathlib.Omega.{arith}
 use lib.ListN.{length, drop, length-drop}
 use Rattle.octets.specs.Octets.{part, bytesPast, bytesAt}
-use Rattle.octets.proofs.ReadLaws.{bytes-part}
+use Rattle.octets.proofs.ReadLaws.{bytes-part, part-from}
 use Rattle.ibft_table.specs.Layout.{Kind, initiator, nic, target, slotCount, entryCount, kindOf, nicSlot, targetSlot}
 use Rattle.ibft_table.specs.Verdict.{refusalOf, shown}
 use Rattle.ibft_table.specs.Table.{lengthOf, startOf, present, sizeOf, offsetOf, holdsEntry}
@@ -28,7 +28,7 @@ use Rattle.ibft_laws.proofs.TableLaws.{length-least, length-le, slot-ke
 use Rattle.ibft_laws.proofs.BeginsLaws.{start-same, present-same, structure-byte-same, structure-part-same, size-same, offset-same}
 use Rattle.ibft_laws.proofs.BeginsVerdictLaws.{begins-accepted}
 use Rattle.ibft_laws.proofs.BeginsRecordLaws.{begins-holds, begins-entry-bytes, begins-record}
-use Rattle.ibft_laws.proofs.ReadingLaws.{initiator-kind, nic-kind, target-kind, part-from, slot-verdict, slot-missing, slot-unknown, entry-verdict, entry-missing, entry-unknown, header-gives}
+use Rattle.ibft_laws.proofs.ReadingLaws.{initiator-kind, nic-kind, target-kind, slot-verdict, slot-missing, slot-unknown, entry-verdict, entry-missing, entry-unknown, header-gives}
 
 -- ---- a reading looks at its structure only
 

@@ -19,9 +19,9 @@ use Rattle.ibft_table.specs.Record.{bodySize, contentOf, recordOf}
 use Rattle.ibft_table.specs.Login.{has, targetFlags, valid, selected, chosen, orderOf, placed, loginFrom, loginOrderOf}
 use Rattle.ibft_table.specs.declared.verdict.Verdict.the-variants.{Accepted}
 use Rattle.ibft_laws.specs.Begins.{Begins}
-use Rattle.ibft_laws.specs.Order.{outOfOrder, keepsOrder}
-use Rattle.ibft_laws.proofs.TestLaws.{and-both}
-use Rattle.ibft_laws.proofs.ListingLaws.{any-same, first-same, gather-same}
+use Rattle.ibft_table.specs.Order.{outOfOrder, keepsOrder}
+use Rattle.octets.proofs.TestLaws.{and-both}
+use Rattle.octets.proofs.CountingLaws.{any-same, first-same, gather-same}
 use Rattle.ibft_laws.proofs.LayoutLaws.{slot-fits, built-fits}
 use Rattle.ibft_laws.proofs.TableLaws.{length-least, slot-kept, owner-inside, entry-owner-on, entry-kept}
 use Rattle.ibft_laws.proofs.BeginsLaws.{byte-same, part-same, start-same, present-same, structure-byte-same, structure-part-same, holds-same, entry-bytes-same}

@@ -21,8 +21,8 @@ use Rattle.ibft_table.specs.Table.{lengthOf, startOf, present, endOf, sizeOf, o
 use Rattle.ibft_table.specs.Check.{padded, headerTests, alien, reservedSet, controlTests, misplaced, slotTests, overlap, overlapTests, entryTests, checkTests, checkOf}
 use Rattle.ibft_table.specs.declared.verdict.Verdict.the-variants.{Accepted}
 use Rattle.ibft_laws.specs.Begins.{Begins}
-use Rattle.ibft_laws.proofs.ListingLaws.{any-same}
-use Rattle.ibft_laws.proofs.VerdictLaws.{cons-same, append-same, gather-verdict-same, each-accepts}
+use Rattle.octets.proofs.CountingLaws.{any-same}
+use Rattle.ibft_table.proofs.VerdictLaws.{cons-same, append-same, gather-verdict-same, gather-passes}
 use Rattle.ibft_laws.proofs.LayoutLaws.{slot-fits, entry-fits}
 use Rattle.ibft_laws.proofs.AcceptedLaws.{placed-facts, slot-facts}
 use Rattle.ibft_laws.proofs.TableLaws.{length-least, length-le, entry-owner-on}
@@ -171,7 +171,7 @@ module _ (t u : List ℕ) (least : 66 ≤ lengthOf t) (whole : lengthOf t ≤ le
       (λ slots. append-same (gather (overlapTests u) 0 slotCount) (gather (overlapTests t) 0 slotCount) _ _
       (gather-verdict-same (overlapTests u) (overlapTests t) 0 slotCount (λ k l h. overlaps-same k (omega arith)))
       (λ e4. gather-verdict-same (entryTests u) (entryTests t) 0 entryCount
-      (λ n l h. entry-same (λ k m on. slot-facts t k (each-accepts (slotTests t) 0 slotCount slots k (omega arith) (omega arith)) on .inside) n (omega arith))))))
+      (λ n l h. entry-same (λ k m on. slot-facts t k (gather-passes (slotTests t) slotCount 0 k slots (omega arith) (omega arith)) on .inside) n (omega arith))))))
 
 pub begins-accepted : (t u : List ℕ) → checkOf t ≡ Accepted → Begins u t (lengthOf t) → checkOf u ≡ Accepted
 begins-accepted t u ok like = begins-verdict t u (length-least t ok) (length-le t ok) like ∙ ok

@@ -1,7 +1,7 @@
 -- Where the heap starts: it is the greatest of Control's end and the ends of the structures present.
---     heap-least, heap-end     it is at or behind Control's end and each structure's
---     heap-is                  it is one of these ends
---     heap-below               what lies at or behind all these ends lies at or behind the heap's start
+--     heap-end       it is at or behind each structure's end (and Control's: `heap-after-control` of the check's laws)
+--     heap-is        it is one of these ends
+--     heap-below     what lies at or behind all these ends lies at or behind the heap's start
 -- Assumes nothing.
 use mathlib.Core.Path.{_≡_, refl, ap, _∙_}
 use mathlib.Core.Logic.{_⊎_, inl, inr, ⊎-elim}
@@ -22,11 +22,6 @@ pub record EndOf (t : List ℕ) (k x : ℕ) : Type 0 where
 
 module _ (t : List ℕ) where
   -- ---- over the first k slots
-
-  end-least : (k : ℕ) → controlEnd ≤ endBelow t k
-  unfolding endBelow
-  end-least zero = omega arith
-  end-least (suc k) = omega (arith, end-least k)
 
   end-end : (k i : ℕ) → i < k → present t i ≡ true → endOf t i ≤ endBelow t k
   unfolding endBelow
@@ -63,10 +58,6 @@ module _ (t : List ℕ) where
           ]
 
   -- ---- the heap's start
-
-  pub heap-least : controlEnd ≤ heapOf t
-  unfolding heapOf
-  heap-least = end-least slotCount
 
   pub heap-end : (k : ℕ) → k < slotCount → present t k ≡ true → endOf t k ≤ heapOf t
   unfolding heapOf

@@ -28,10 +28,11 @@ use Rattle.ibft_table.specs.Table.{lengthOf, startOf, present, endOf, heapOf, o
 use Rattle.ibft_table.specs.Check.{checkOf}
 use Rattle.ibft_table.specs.Record.{Content, listed, shownIf, contentOf, recordOf}
 use Rattle.ibft_table.specs.declared.verdict.Verdict.the-variants.{Accepted}
-use Rattle.ibft_laws.specs.Order.{keepsOrder}
-use Rattle.ibft_laws.proofs.TestLaws.{and-both}
+use Rattle.ibft_table.specs.Order.{keepsOrder}
+use Rattle.octets.proofs.TestLaws.{and-both}
 use Rattle.ibft_laws.proofs.LayoutLaws.{built-fits}
-use Rattle.ibft_laws.proofs.HeapLaws.{heap-least, heap-end}
+use Rattle.ibft_table.proofs.CheckLaws.{heap-after-control}
+use Rattle.ibft_laws.proofs.HeapLaws.{heap-end}
 use Rattle.ibft_laws.proofs.TableLaws.{slot-kept, slots-disjoint, heap-start-le, entry-stands}
 use Rattle.ibft_laws.proofs.RecordLaws.{table-entry-some, listed-same}
 use Rattle.ibft_laws.proofs.OrderLaws.{order-starts}
@@ -84,7 +85,7 @@ module _ (t : List ℕ) (ok : checkOf t ≡ Accepted) where
         (λ i p. let a = known i p in slot-kept t ok (builtSlot i) (a .slot) (a .on) .aligned)
         (λ i p. let a = known i p in omega (arith, slot-kept t ok (builtSlot i) (a .slot) (a .on) .least))
         ordered
-        slotCount (heapOf t) (heap-least t)
+        slotCount (heapOf t) (heap-after-control t)
         (λ i l p. let a = known i p in heap-end t (builtSlot i) (a .slot) (a .on)) in
         omega (arith, same, least)
 

@@ -1,13 +1,8 @@
-pub mod TestLaws
-pub mod ListingLaws
 pub mod PlaceLaws
-pub mod VerdictLaws
-pub mod FailureLaws
 pub mod LayoutLaws
 pub mod HeapLaws
 pub mod AcceptedLaws
 pub mod TableLaws
-pub mod StandsLaws
 pub mod RecordLaws
 pub mod BodyLaws
 pub mod ReadingLaws

@@ -10,8 +10,8 @@ use Rattle.octets.specs.Counting.{any}
 use Rattle.octets.proofs.CountingLaws.{any-none, any-no}
 use Rattle.ibft_table.specs.Layout.{slotCount, builtSlot}
 use Rattle.ibft_table.specs.Table.{startOf, present}
-use Rattle.ibft_laws.specs.Order.{outOfOrder, keepsOrder}
-use Rattle.ibft_laws.proofs.TestLaws.{and-other, and-no}
+use Rattle.ibft_table.specs.Order.{outOfOrder, keepsOrder}
+use Rattle.octets.proofs.TestLaws.{and-other, and-no}
 
 module _ (t : List ℕ) where
   pub order-starts : keepsOrder t ≡ true → (i j : ℕ) → i < j → j < slotCount → present t (builtSlot i) ≡ true → present t (builtSlot j) ≡ true

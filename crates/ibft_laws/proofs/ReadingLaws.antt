@@ -13,10 +13,10 @@ use mathlib.Core.List.{List, []}
 use Prim.Native.Nat.{ℕ, zero, suc, _+_, _*_, _≤_, _<_}
 use native.Mathlib.Omega.{arith}
 use borrow.Author.Tests.{le-leb, lt-leb}
-use lib.ListN.{length, getD, take, drop, length-drop}
-use lib.Seq.{getD-drop, drop-drop}
+use lib.ListN.{length, getD, drop, length-drop}
+use lib.Seq.{getD-drop}
 use Rattle.octets.specs.Octets.{byte, word16, part}
-use Rattle.octets.proofs.ReadLaws.{bytes-part}
+use Rattle.octets.proofs.ReadLaws.{bytes-part, part-from}
 use Rattle.ibft_table.specs.Layout.{Kind, initiator, nic, target, slotCount, entryCount, kindOf, ownerOf, stringOf, nicSlot, targetSlot, slotOf}
 use Rattle.ibft_table.specs.Verdict.{firstOf, refusalOf, shown}
 use Rattle.ibft_table.specs.Table.{startOf, present, fieldOf, sizeOf, offsetOf, holdsEntry}
@@ -26,7 +26,7 @@ use Rattle.ibft_table.specs.Readings.{textAt, headerIn, initiatorIn, nicIn, tar
 use Rattle.ibft_table.specs.declared.verdict.Verdict.{Verdict}
 use Rattle.ibft_table.specs.declared.verdict.Verdict.the-variants.{Accepted, Refused}
 use Rattle.ibft_laws.specs.Bodies.{initiatorFields, nicFields, targetFields, initiatorBody, nicBody, targetBody, initiatorFrom, nicFrom, targetFrom}
-use Rattle.ibft_laws.proofs.VerdictLaws.{accept-cons, accept-none, pass-cons, fail-cons, append-accepted}
+use Rattle.ibft_table.proofs.VerdictLaws.{accept-cons, accept-none, pass-cons, fail-cons, append-accepted}
 use Rattle.ibft_laws.proofs.LayoutLaws.{slot-fits, entry-fits}
 use Rattle.ibft_laws.proofs.TableLaws.{length-least, length-le, slot-end-le}
 use Rattle.ibft_laws.proofs.RecordLaws.{structure-listed, entry-listed, table-presence-same}
@@ -49,15 +49,6 @@ unfolding kindOf slotOf
 target-kind zero h = refl
 target-kind (suc zero) h = refl
 target-kind (suc (suc n)) h = absurd (omega arith)
-
--- ---- what is read from a place on
-
-pub byte-from : (t : List ℕ) (s i : ℕ) → byte (drop s t) i ≡ byte t (s + i)
-byte-from t s i = getD-drop s t i 0
-
-pub part-from : (t : List ℕ) (s i n : ℕ) → part (drop s t) i n ≡ part t (s + i) n
-unfolding part
-part-from t s i n = ap (take n) (drop-drop i s t)
 
 -- ---- verdicts
 
@@ -139,7 +130,7 @@ module _ (t : List ℕ) (ok : checkOf t ≡ Accepted) where
 
     structure-lt : ((i : ℕ) → byte t i < 256) → (i : ℕ) → byte (structureIn t k) i < 256
     structure-lt bytes i =
-        omega (arith, ap (λ (l : List ℕ). byte l i) structure-shown, byte-from t (startOf t k) i, bytes (startOf t k + i))
+        omega (arith, ap (λ (l : List ℕ). byte l i) structure-shown, getD-drop (startOf t k) t i 0, bytes (startOf t k + i))
 
   pub structure-none : (k : ℕ) → k < slotCount → present t k ≡ false → getD ((recordOf t) .structures) k none ≡ none
   unfolding recordOf contentOf
@@ -206,7 +197,7 @@ module _ (t : List ℕ) (ok : checkOf t ≡ Accepted) where
         let at = (stringOf n) .at in
         let word : (i : ℕ) → word16 (structureIn t (ownerOf n)) i ≡ word16 t (s + i) =
         λ i. ap (λ (l : List ℕ). word16 l i) (structure-shown (ownerOf n) owner on)
-        ∙ ap₂ (λ (a b : ℕ). a + 256 * b) (byte-from t s i) (byte-from t s (i + 1) ∙ ap (byte t) (omega arith)) in
+        ∙ ap₂ (λ (a b : ℕ). a + 256 * b) (getD-drop s t i 0) (getD-drop s t (i + 1) 0 ∙ ap (byte t) (omega arith)) in
         ap₂ (λ (l o : ℕ). record { length = l; offset = o }) (word at) (word (at + 2) ∙ ap (word16 t) (omega arith))
 
 -- ---- equal records have equal readings

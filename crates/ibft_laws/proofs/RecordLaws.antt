@@ -3,7 +3,7 @@
 --     shown-some, shown-equal                  what is shown only where it is there
 --     structure-listed, entry-listed           a listing's elements
 --     same-listed, listed-same                 equal listings against the same content
---     table-entry-some, table-structure-some   a table's content, by what is shown
+--     table-entry-some                         a table's entry, by what is shown
 --     table-presence-same, table-body-same, table-holds-same, table-entry-same     two tables with equal records
 -- Assumes nothing.
 use mathlib.Core.Path.{_≡_, refl, ap}
@@ -18,7 +18,7 @@ use Rattle.ibft_table.specs.Layout.{kindOf, slotCount, entryCount}
 use Rattle.ibft_table.specs.Table.{startOf, present, sizeOf, offsetOf, holdsEntry}
 use Rattle.ibft_table.specs.Record.{Record, Content, listed, shownIf, bodySize, contentOf, recordOf}
 use Rattle.ibft_laws.specs.SameContent.{SameContent}
-use Rattle.ibft_laws.proofs.ListingLaws.{getD-tabulate, tabulate-same, tabulate-equal}
+use Rattle.octets.proofs.CountingLaws.{getD-tabulate, tabulate-same, tabulate-equal}
 
 -- ---- what is shown only where it is there
 
@@ -68,11 +68,6 @@ module _ (c d : Content) where
 -- ---- a table's content
 
 module _ (t : List ℕ) where
-  pub table-structure-some : (k : ℕ) (a : List ℕ) → (contentOf t) .structure k ≡ some a
-      → (present t k ≡ true) × (part t (startOf t k + 5) (bodySize (kindOf k)) ≡ a)
-  unfolding contentOf
-  table-structure-some k a e = shown-some (present t k) _ a e
-
   pub table-entry-some : (n : ℕ) (a : List ℕ) → (contentOf t) .entry n ≡ some a → (holdsEntry t n ≡ true) × (part t (offsetOf t n) (sizeOf t n) ≡ a)
   unfolding contentOf
   table-entry-some n a e = shown-some (holdsEntry t n) _ a e

@@ -14,24 +14,18 @@ use Prim.Native.Nat.{ℕ, _+_, _≤_, _<_}
 use native.Mathlib.Decide.{decLt}
 use native.Mathlib.Omega.{arith}
 use lib.ListN.{length}
-use lib.Seq.{getD-take, getD-drop}
 use Rattle.octets.specs.Octets.{byte, part}
-use Rattle.octets.proofs.ReadLaws.{part-length}
+use Rattle.octets.proofs.ReadLaws.{part-length, part-at}
 use Rattle.string_heap.proofs.TailsLaws.{Stands}
 use Rattle.ibft_table.specs.Layout.{slotCount, entryCount, kindOf, ownerOf}
 use Rattle.ibft_table.specs.Table.{lengthOf, startOf, present, endOf, heapOf, fieldOf, sizeOf, offsetOf, holdsEntry}
 use Rattle.ibft_table.specs.Check.{checkOf}
 use Rattle.ibft_table.specs.declared.verdict.Verdict.the-variants.{Accepted}
 use Rattle.ibft_laws.specs.Facts.{SlotFacts, EntryFacts, Disjoint, Facts}
-use Rattle.ibft_laws.proofs.TestLaws.{and-both}
+use Rattle.octets.proofs.TestLaws.{and-both}
 use Rattle.ibft_laws.proofs.HeapLaws.{heap-below}
-use Rattle.ibft_laws.proofs.LayoutLaws.{entry-fits}
+use Rattle.ibft_laws.proofs.LayoutLaws.{entry-fits, entry-inside}
 use Rattle.ibft_laws.proofs.AcceptedLaws.{accepted-facts}
-
--- the bytes of a part that lies in the list
-pub part-at : (t : List ℕ) (start n i : ℕ) → i < n → byte (part t start n) i ≡ byte t (start + i)
-unfolding part
-part-at t start n i h = rw (getD-take, getD-drop)
 
 -- an entry that is present has a structure that is
 pub entry-owner-on : (t : List ℕ) (n : ℕ) → holdsEntry t n ≡ true → present t (ownerOf n) ≡ true
@@ -41,7 +35,7 @@ entry-owner-on t n on = and-both (present t (ownerOf n)) _ on .0
 -- its two words lie in its structure
 pub entry-words-le : (t : List ℕ) (n : ℕ) → n < entryCount → fieldOf t n + 4 ≤ endOf t (ownerOf n)
 unfolding fieldOf endOf
-entry-words-le t n h = omega (arith, entry-fits n h .inside)
+entry-words-le t n h = omega (arith, entry-inside n h)
 
 module _ (t : List ℕ) (ok : checkOf t ≡ Accepted) where
   facts : Facts t

@@ -2,4 +2,3 @@ pub mod Facts
 pub mod Begins
 pub mod SameContent
 pub mod Bodies
-pub mod Order

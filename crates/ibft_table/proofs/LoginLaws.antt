@@ -8,7 +8,7 @@ use mathlib.Core.List.{List, [], _∷_, _++_, append-assoc, append-nil}
 use mathlib.Core.Bool.{Bool, true, false, cond, _&&_, and-false}
 use Prim.Native.Nat.{ℕ, zero, suc, _+_, _-_, _≤_, _<_}
 use native.Mathlib.Numerals.{add-one}
-use native.Mathlib.Nat.{add-zero, zero-add}
+use native.Mathlib.Nat.{zero-add}
 use native.Mathlib.Decide.{decLt}
 use native.Mathlib.Omega.{arith}
 use lib.ListN.{length, getD, set, length-set, length-append, List·getD-append, List·getD-eq-default}
@@ -17,30 +17,11 @@ use lib.Dec.{ltb}
 use borrow.Author.Tests.{eq-eqb, ne-eqb, lt-ltb, le-ltb}
 use Rattle.octets.specs.Counting.{tabulate, gather}
 use Rattle.octets.specs.Octets.{differs}
+use Rattle.octets.proofs.CountingLaws.{length-tabulate, getD-tabulate, gather-last}
 use Rattle.ibft_table.specs.Layout.{targetCount}
 use Rattle.ibft_table.specs.Login.{valid, chosen, orderOf, placed}
 use Rattle.ibft_table.specs.declared.verdict.Verdict.{Verdict}
 use Rattle.ibft_table.specs.declared.login.LoginOrder.{LoginOrder}
-
--- ---- lists by number
-
-length-tabulate : (f : ℕ → ℕ) (k n : ℕ) → length (tabulate f k n) ≡ n
-unfolding tabulate
-length-tabulate f k zero = refl
-length-tabulate f k (suc n) = ap suc (length-tabulate f (suc k) n)
-
-getD-tabulate : (f : ℕ → ℕ) (k n i d : ℕ) → i < n → getD (tabulate f k n) i d ≡ f (k + i)
-unfolding tabulate
-getD-tabulate f k zero i d h = absurd (omega arith)
-getD-tabulate f k (suc n) zero d h = ap f (sym (add-zero k))
-getD-tabulate f k (suc n) (suc i) d h = getD-tabulate f (suc k) n i d (omega arith) ∙ ap f (omega arith)
-
-gather-last : (f : ℕ → List ℕ) (k n : ℕ) → gather f k (suc n) ≡ gather f k n ++ f (k + n)
-unfolding gather
-gather-last f k zero = append-nil (f k) ∙ ap f (sym (add-zero k))
-gather-last f k (suc n) =
-    let next : suc k + n ≡ k + suc n = omega arith in
-    rw (append-assoc (f k) (gather f (suc k) n) (f (k + suc n)), ← next) (ap (λ (l : List ℕ). f k ++ l) (gather-last f (suc k) n))
 
 length-cond : (b : Bool) (n : ℕ) → length (cond b (n ∷ []) []) ≤ 1
 length-cond true n = omega arith
@@ -114,7 +95,7 @@ module _ (order : List ℕ) (c n : ℕ) (room : length order < c) where
   place-more i h =
       let size = length-tabulate (λ (k : ℕ). getD order k 255) 0 c in
       let kept : (i ≡ length order → ⊥) → getD (set filled (length order) n) i 0 ≡ getD order i 255 =
-      λ other. getD-set-other filled (length order) i n 0 other ∙ getD-tabulate (λ (k : ℕ). getD order k 255) 0 c i 0 h ∙ ap (λ (k : ℕ). getD order k 255) (zero-add i) in
+      λ other. getD-set-other filled (length order) i n 0 other ∙ getD-tabulate (λ (k : ℕ). getD order k 255) c i 0 h in
       elim (decLt i (length order)) [
         | yes lt ↦ List·getD-append order (n ∷ []) 255 i lt ∙ sym (kept (λ e. omega arith))
         | no ge ↦
@@ -134,7 +115,7 @@ module _ (order : List ℕ) (c n : ℕ) (room : length order < c) where
       let size = length-tabulate longer 0 c in
       let same : length (set filled (length order) n) ≡ c = simp length-set (length-tabulate (λ (k : ℕ). getD order k 255) 0 c) in
       ext-getD 0 (tabulate longer 0 c) (set filled (length order) n) (size ∙ sym same)
-      (λ i h. getD-tabulate longer 0 c i 0 (omega arith) ∙ ap longer (zero-add i) ∙ place-more i (omega arith))
+      (λ i h. getD-tabulate longer c i 0 (omega arith) ∙ place-more i (omega arith))
 
 -- an order with target n behind those that are placed
 abbrev behind : LoginOrder → ℕ → LoginOrder

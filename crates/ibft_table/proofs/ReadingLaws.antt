@@ -3,29 +3,23 @@
 --     check-accepts                    the verdict of a reading, where the check accepts
 --     view-stretch                     an entry's view is the stretch that its reading gives, none where that is refused
 --     entry-within                     this stretch starts within the bytes lent
---     header-given, structure-given, entry-given     of an accepted table the readings give the parts of its record
 -- Assumes nothing.
-use mathlib.Core.Path.{_≡_, refl, sym, ap, _∙_}
-use mathlib.Core.Option.{Option, none, some}
+use mathlib.Core.Path.{_≡_, refl, sym}
 use mathlib.Core.Logic.{_⊎_, inl, inr, ⊎-elim}
 use mathlib.Core.List.{List, [], _∷_, _++_}
-use mathlib.Core.Bool.{Bool, true, false, cond, not}
+use mathlib.Core.Bool.{true, not}
 use Prim.Native.Nat.{ℕ, _+_, _≤_, _<_}
 use native.Mathlib.Omega.{arith}
-use native.Mathlib.Nat.{zero-add}
-use lib.ListN.{length, take, drop}
-use lib.Seq.{drop-drop}
+use lib.ListN.{length, drop}
 use lib.Dec.{leb}
-use borrow.Author.Tests.{ltb-false, leb-false, lt-leb, not-false}
+use borrow.Author.Tests.{ltb-false, leb-false, not-false}
 use Rattle.octets.specs.Counting.{gather}
 use Rattle.octets.specs.Octets.{part}
-use Rattle.octets.proofs.ReadLaws.{bytes-part}
-use Rattle.ibft_table.specs.Layout.{kindOf, slotCount, entryCount}
+use Rattle.ibft_table.specs.Layout.{slotCount, entryCount}
 use Rattle.ibft_table.specs.Verdict.{Test, refuse, firstOf, refusalOf, shown}
-use Rattle.ibft_table.specs.Table.{lengthOf, startOf, present, sizeOf, offsetOf, holdsEntry}
+use Rattle.ibft_table.specs.Table.{lengthOf, sizeOf, offsetOf, holdsEntry}
 use Rattle.ibft_table.specs.Check.{headerTests, controlTests, slotTests, overlapTests, entryTests, checkTests, checkOf}
-use Rattle.ibft_table.specs.Readings.{headerIn, headerOf, slotVerdict, structureIn, entryVerdict, entryFrom, entryOf, viewOf}
-use Rattle.ibft_table.specs.Record.{contentOf, shownIf, bodySize}
+use Rattle.ibft_table.specs.Readings.{entryVerdict, entryFrom, entryOf, viewOf}
 use Rattle.ibft_table.specs.declared.verdict.Verdict.{Verdict}
 use Rattle.ibft_table.specs.declared.verdict.Verdict.the-variants.{Accepted, Refused}
 use Rattle.ibft_table.proofs.VerdictLaws.{append-go, passes, append-passes, gather-passes}
@@ -39,12 +33,6 @@ check-accepts t asked e = sym (append-go (checkTests t) asked Accepted (sym e) r
 -- ---- what an accepted table passes
 
 module _ (t : List ℕ) (accepted : checkOf t ≡ Accepted) where
-  lent-least : 48 ≤ length t
-  unfolding checkOf checkTests headerTests
-  lent-least =
-      let header = append-passes (headerTests 0x54464269 48 66 t) (drop 8 (checkTests t)) accepted .0 in
-      ltb-false (length t) 48 (passes _ _ header .0)
-
   length-within : lengthOf t ≤ length t
   unfolding checkOf checkTests headerTests
   length-within =
@@ -60,7 +48,7 @@ module _ (t : List ℕ) (accepted : checkOf t ≡ Accepted) where
       let behind-header = append-passes (headerTests 0x54464269 48 66 t) (controlTests t ++ (slots ++ (overlaps ++ entries))) accepted .1 in
       let behind-control = append-passes (controlTests t) (slots ++ (overlaps ++ entries)) behind-header .1 in
       let behind-slots = append-passes slots (overlaps ++ entries) behind-control .1 in
-      rw (← zero-add n) (gather-passes (entryTests t) entryCount 0 n (append-passes overlaps entries behind-slots .1) h)
+      gather-passes (entryTests t) entryCount 0 n (append-passes overlaps entries behind-slots .1) (omega arith) (omega arith)
 
   -- a present entry ends within Length
   pub entry-ends : (n : ℕ) → n < entryCount → holdsEntry t n ≡ true → offsetOf t n + sizeOf t n ≤ lengthOf t
@@ -113,48 +101,3 @@ module _ (t : List ℕ) (n : ℕ) where
   pub entry-within : (entryOf t n) .offset ≤ length t
   unfolding entryOf
   entry-within = offset-from (entryVerdict t n) refl
-
--- ---- of a table that the check accepts, the readings give the parts of its record
-
--- what a reading with this verdict gives
-abbrev pub given : Verdict → List ℕ → Option (List ℕ)
-given Accepted bytes = some bytes
-given (Refused r) bytes = none
-
--- the verdict on what is there, or missing
-abbrev missing : Bool → Verdict
-missing there = cond (not there) (Refused (record { number = 22; place = 0 })) Accepted
-
-given-there : (there : Bool) (f : Verdict → List ℕ) → shownIf there (f Accepted) ≡ given (missing there) (f (missing there))
-given-there true f = refl
-given-there false f = refl
-
-part-drop : (t : List ℕ) (start i n : ℕ) → part t (start + i) n ≡ part (drop start t) i n
-unfolding part
-part-drop t start i n = ap (take n) (sym (drop-drop i start t))
-
-module _ (t : List ℕ) (accepted : checkOf t ≡ Accepted) where
-  pub header-given : (headerOf t) .header
-      ≡ record { «oem_id» = (contentOf t) .oemId; «oem_table_id» = (contentOf t) .oemTableId; flags = (contentOf t) .flags }
-  unfolding headerOf headerIn contentOf shown
-  header-given = rw (accepted, bytes-part t 10 6 (omega (arith, lent-least t accepted)), bytes-part t 16 8 (omega (arith, lent-least t accepted)))
-
-  slot-verdict : (k : ℕ) → k < slotCount → slotVerdict t k ≡ missing (present t k)
-  unfolding slotVerdict firstOf
-  slot-verdict k h = check-accepts t _ accepted ∙ rw (lt-leb slotCount k h)
-
-  pub structure-given : (k : ℕ) → k < slotCount
-      → (contentOf t) .structure k ≡ given (slotVerdict t k) (part (structureIn t k) 5 (bodySize (kindOf k)))
-  unfolding contentOf structureIn shown
-  structure-given k h =
-      rw (slot-verdict k h, part-drop t (startOf t k) 5 (bodySize (kindOf k)))
-      (given-there (present t k) (λ (v : Verdict). part (shown v (drop (startOf t k) t)) 5 (bodySize (kindOf k))))
-
-  entry-verdict : (n : ℕ) → n < entryCount → entryVerdict t n ≡ missing (holdsEntry t n)
-  unfolding entryVerdict firstOf
-  entry-verdict n h = check-accepts t _ accepted ∙ rw (lt-leb entryCount n h)
-
-  pub entry-given : (n : ℕ) → n < entryCount → (contentOf t) .entry n ≡ given (entryVerdict t n) (viewOf t n)
-  unfolding contentOf viewOf shown
-  entry-given n h =
-      rw (entry-verdict n h) (given-there (holdsEntry t n) (λ (v : Verdict). shown v (part t (offsetOf t n) (sizeOf t n))))

@@ -1,12 +1,12 @@
 -- The layout's data, worked out: what document 01's tables say, by computation.
 use mathlib.Core.Path.{_≡_, refl}
 use mathlib.Core.List.{List, [], _∷_, _++_}
-use mathlib.Core.Bool.{Bool, true, false}
-use Prim.Native.Nat.{ℕ, zero, suc, _+_, _*_, _/_, _%_}
+use mathlib.Core.Bool.{true, false}
+use Prim.Native.Nat.{ℕ, zero, suc, _+_, _/_, _%_}
 use lib.ListN.{length}
-use Rattle.octets.specs.Counting.{tabulate, gather}
+use Rattle.octets.specs.Counting.{tabulate}
 use Rattle.octets.specs.Octets.{le16, le32}
-use Rattle.ibft_table.specs.Layout.{Field, StringField, Kind, EntryLayout, control, initiator, nic, target, slots, slotCount, entryCount, controlAt, controlEnd, wordAt, kindOf, ownerOf, stringOf, firstEntry, entriesFrom, builtSlot}
+use Rattle.ibft_table.specs.Layout.{Field, StringField, Kind, control, initiator, nic, target, slots, slotCount, entryCount, controlAt, controlEnd, wordAt, ownerOf, stringOf, firstEntry, entriesFrom}
 use Rattle.ibft_table.specs.Readings.{initiatorIn, nicIn, targetIn, pciOf}
 use Rattle.ibft_table.specs.Computing.{computing}
 use Rattle.ibft_table.specs.declared.text.Text.{Text}

@@ -6,6 +6,7 @@ pub mod Check
 pub mod Record
 pub mod Readings
 pub mod Login
+pub mod Order
 pub mod Promises
 pub mod Computing
 pub mod LayoutCases

@@ -7,7 +7,7 @@ use mathlib.Core.List.{List, [], _∷_, _++_}
 use Prim.Native.Nat.{ℕ}
 use denote.Ref.{RefT, now}
 use Rattle.octets.specs.View.{Shows}
-use Rattle.ibft_table.specs.Verdict.{Test, refusalOf}
+use Rattle.ibft_table.specs.Verdict.{Test}
 use Rattle.ibft_table.specs.Check.{checkTests, checkOf}
 use Rattle.ibft_table.specs.Readings.{entryOf, viewOf}
 use Rattle.ibft_table.specs.declared.verdict.Refusal.{Refusal}

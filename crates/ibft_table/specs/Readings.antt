@@ -2,12 +2,12 @@
 -- Assumes nothing: these are definitions.
 use Prim.Native.Nat.{ℕ, _+_, _/_, _%_}
 use mathlib.Core.List.{List, [], _∷_, _++_}
-use mathlib.Core.Bool.{Bool, cond, not, _&&_}
+use mathlib.Core.Bool.{cond, not, _&&_}
 use lib.ListN.{drop}
 use lib.Dec.{leb, eqb}
 use Rattle.octets.specs.Octets.{byte, word16, word64, part, bytesAt, allZero}
 use Rattle.ibft_table.specs.Layout.{kindOf, slotCount, entryCount, nicSlot, targetSlot}
-use Rattle.ibft_table.specs.Verdict.{Test, refuse, firstOf, refusalOf, shown}
+use Rattle.ibft_table.specs.Verdict.{refuse, firstOf, refusalOf, shown}
 use Rattle.ibft_table.specs.Table.{startOf, present, sizeOf, offsetOf, holdsEntry}
 use Rattle.ibft_table.specs.Check.{checkTests, checkOf}
 use Rattle.ibft_table.specs.declared.verdict.Verdict.{Verdict}

@@ -1,0 +1,69 @@
+-- The largest Length. Structures end no later than where all of them are present, and entries take no more than where each is
+-- stored at its longest; both are then worked out from the layout.
+--     endTo-most        structures end no later than where all are present
+--     heapSize-most     entries take at most their longest and a zero each
+--     heap-start-bound, heap-size-bound, length-bound     the numbers: 470, 3,232, 3,702
+-- Assumes nothing.
+use mathlib.Core.Path.{_≡_, refl}
+use mathlib.Core.Bool.{Bool, true, false, cond}
+use mathlib.Core.List.{List}
+use mathlib.Core.Option.{none, some}
+use Prim.Native.Nat.{ℕ, zero, suc, _+_, _≤_, _<_}
+use native.Mathlib.Omega.{arith}
+use lib.ListN.{length}
+use Rattle.octets.specs.Counting.{sumTo}
+use Rattle.string_heap.specs.Stored.{Entry, every, stored, ofStored, size, heapSize}
+use Rattle.string_heap.specs.Starts.{align8, endTo}
+use Rattle.string_heap.proofs.Intervals.{sumTo-le}
+use Rattle.ibft_table.specs.Layout.{kindOf, slotCount, entryCount, controlEnd, builtSlot, stringOf}
+use Rattle.ibft_table.specs.Record.{Content}
+use Rattle.build_rules.specs.Plan.{isPresent, endBuilt, heapStart, lengthBuilt}
+use Rattle.build_rules.specs.Computing.{computing}
+use Rattle.build_rules.proofs.GoodContent.{Good}
+
+-- ---- structures
+
+pub endTo-most : (on : ℕ → Bool) (size : ℕ → ℕ) (base k : ℕ) → endTo on size base k ≤ endTo every size base k
+unfolding endTo
+endTo-most on size base zero = omega arith
+endTo-most on size base (suc k) = go (on k) (endTo-most on size base k)
+  where
+    go : (b : Bool) → endTo on size base k ≤ endTo every size base k
+        → cond b (align8 (endTo on size base k) + size k) (endTo on size base k) ≤ align8 (endTo every size base k) + size k
+    go true h = omega arith
+    go false h = omega arith
+
+all-end : endTo every (λ (i : ℕ). (kindOf (builtSlot i)) .length) controlEnd slotCount ≡ 470
+unfolding computing
+all-end = refl
+
+pub heap-start-bound : (c : Content) → heapStart c ≤ 470
+unfolding heapStart endBuilt
+heap-start-bound c =
+    omega (arith, all-end, endTo-most (λ (i : ℕ). isPresent (c .structure (builtSlot i))) (λ (i : ℕ). (kindOf (builtSlot i)) .length) controlEnd slotCount)
+
+-- ---- entries
+
+pub heapSize-most : (n : ℕ) (shares : ℕ → Bool) (e : ℕ → Entry) (longest : ℕ → ℕ)
+    → ((i : ℕ) (a : List ℕ) → i < n → e i ≡ some a → length a ≤ longest i) → heapSize n shares e ≤ sumTo n (λ (i : ℕ). longest i + 1)
+unfolding heapSize ofStored
+heapSize-most n shares e longest short =
+    sumTo-le n (λ (i : ℕ). size n shares e i) (λ (i : ℕ). longest i + 1) (λ i h. go i h (e i) refl (stored n shares e i))
+  where
+    go : (i : ℕ) → i < n → (o : Entry) → e i ≡ o → (b : Bool) → ofStored o b (λ (a : List ℕ). length a + 1) ≤ longest i + 1
+    go i h none is b = omega arith
+    go i h (some a) is true = omega (arith, short i a h is)
+    go i h (some a) is false = omega arith
+
+all-longest : sumTo entryCount (λ (n : ℕ). (stringOf n) .longest + 1) ≡ 3232
+unfolding computing
+all-longest = refl
+
+module _ (c : Content) (good : Good c) where
+  pub heap-size-bound : heapSize entryCount every (c .entry) ≤ 3232
+  heap-size-bound =
+      omega (arith, all-longest, heapSize-most entryCount every (c .entry) (λ (n : ℕ). (stringOf n) .longest) (λ n a h is. good .entry n a h is .not-long))
+
+  pub length-bound : lengthBuilt c ≤ 3702
+  unfolding lengthBuilt
+  length-bound = omega (arith, heap-start-bound c, heap-size-bound)

@@ -1,0 +1,14 @@
+pub mod GoodContent
+pub mod BoundLaws
+pub mod GoodLaws
+pub mod BuiltLeastLaws
+pub mod NumberLaws
+pub mod OutcomeLaws
+pub mod PlanLaws
+pub mod BytesLaws
+pub mod BuiltLaws
+pub mod PassesLaws
+pub mod ReadsBackLaws
+pub mod BuiltOrderLaws
+pub mod ServesLaws
+pub mod PromiseLaws

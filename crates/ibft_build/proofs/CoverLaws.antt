@@ -1,0 +1,122 @@
+-- Laws of the storing rule over the entries of a record range, each shaped like what the code returns.
+--     covered-short, covered-late, covered-tail    whether entry j makes it needless to store another
+--     stored-missing, stored-is                    whether an entry is stored
+--     size-stored, size-none                       what an entry takes in the heap
+-- Assumes nothing.
+use mathlib.Core.Path.{_≡_, refl, sym, ap, ap₂, _∙_}
+use mathlib.Core.Bool.{Bool, true, false, not, _&&_, _||_}
+use mathlib.Core.Option.{Option, none, some}
+use mathlib.Core.List.{List}
+use Prim.Native.Nat.{ℕ, _+_, _-_, _≤_, _<_}
+use native.Mathlib.Omega.{arith}
+use native.Mathlib.Decide.{decLt}
+use lib.Dec.{ltb}
+use lib.ListN.{length}
+use borrow.Author.Tests.{lt-ltb, le-ltb, ne-eqb}
+use Rattle.octets.specs.Octets.{part}
+use Rattle.octets.specs.Counting.{any}
+use Rattle.octets.proofs.CountingLaws.{clash}
+use Rattle.octets.proofs.ReadLaws.{part-length}
+use Rattle.string_heap.specs.Tails.{agree, isTail}
+use Rattle.string_heap.proofs.TailsLaws.{agree-le}
+use Rattle.string_heap.specs.Stored.{Entry, every, covers, coveredBy, stored, storedAs, ofStored}
+use Rattle.ibft_table.specs.Layout.{entryCount}
+use Rattle.build_rules.specs.RecordRange.{entryGiven, startGiven}
+use Rattle.ibft_build.specs.Planning.{Sound, entriesGiven, wantedGiven, sizeGiven}
+use Rattle.ibft_build.proofs.EntryLaws.{entry-none, wanted-missing, Lies, lies-at}
+
+-- what is longer is no tail
+pub not-tail : (a b : List ℕ) → length b < length a → isTail a b ≡ false
+unfolding isTail
+not-tail a b h = ne-eqb (agree a b) (length a) (λ e. omega (arith, agree-le a b))
+
+not-and : (x y z : Bool) → y ≡ false → z ≡ false → (x && (y || z)) ≡ false
+not-and true y z p q = ap₂ (λ (u v : Bool). u || v) p q
+not-and false y z p q = refl
+
+and-one : (x y z : Bool) → (y || z) ≡ true → (x && (y || z)) ≡ x
+and-one true y z p = p
+and-one false y z p = refl
+
+-- entry i has the `size` bytes from `start` on, entry j wants w
+module _ (r s : List ℕ) (i start size j : ℕ) (sound : Sound r s) (fits : start + size ≤ length s) (h : j < entryCount) (w : ℕ) (want : w ≡ wantedGiven r j) where
+  present : 0 < w → (a : List ℕ) → coveredBy every i a j (entriesGiven r s j) ≡ covers i a j (part s (startGiven r j) (w - 1))
+  unfolding coveredBy
+  present pos a = ap (coveredBy every i a j) (lies-at r s j sound h w (startGiven r j) want pos refl .is)
+
+  pub covered-short : w ≤ size → false ≡ coveredBy every i (part s start size) j (entriesGiven r s j)
+  unfolding coveredBy
+  covered-short l =
+      elim (decLt 0 w) [
+        | yes pos ↦
+            let b : List ℕ = part s (startGiven r j) (w - 1) in
+            let lies = lies-at r s j sound h w (startGiven r j) want pos refl in
+            let short : length b < length (part s start size) = omega (arith, lies .length-is, part-length s start size fits) in
+            sym (present pos (part s start size) ∙ ap (λ (t : Bool). t && (ltb (length (part s start size)) (length b) || ltb j i)) (not-tail (part s start size) b short))
+        | no l ↦ sym (ap (coveredBy every i (part s start size) j) (entry-none r s j (wanted-missing r j (omega arith))))
+      ]
+
+  pub covered-late : w ≡ size + 1 → i ≤ j → false ≡ coveredBy every i (part s start size) j (entriesGiven r s j)
+  covered-late e l =
+      let b : List ℕ = part s (startGiven r j) (w - 1) in
+      let lies = lies-at r s j sound h w (startGiven r j) want (omega arith) refl in
+      sym (present (omega arith) (part s start size)
+      ∙ not-and (isTail (part s start size) b) (ltb (length (part s start size)) (length b)) (ltb j i)
+      (le-ltb (length (part s start size)) (length b) (omega (arith, lies .length-is, part-length s start size fits))) (le-ltb j i l))
+
+  pub covered-tail : size < w → (w ≡ size + 1 → j < i) → (at : ℕ) → at ≡ startGiven r j → (t : Bool) → t ≡ isTail (part s start size) (part s at (w - 1))
+      → t ≡ coveredBy every i (part s start size) j (entriesGiven r s j)
+  covered-tail long lower at e t is =
+      let b : List ℕ = part s (startGiven r j) (w - 1) in
+      let lies = lies-at r s j sound h w (startGiven r j) want (omega arith) refl in
+      is ∙ ap (λ (m : ℕ). isTail (part s start size) (part s m (w - 1))) e
+      ∙ sym (present (omega arith) (part s start size) ∙ and-one (isTail (part s start size) b) (ltb (length (part s start size)) (length b)) (ltb j i) (prior (lies .length-is)))
+    where
+      prior : length (part s (startGiven r j) (w - 1)) ≡ w - 1 → (ltb (length (part s start size)) (length (part s (startGiven r j) (w - 1))) || ltb j i) ≡ true
+      prior lb =
+          elim (decLt (size + 1) w) [
+            | yes m ↦ ap (λ (x : Bool). x || ltb j i) (lt-ltb (length (part s start size)) (length (part s (startGiven r j) (w - 1))) (omega (arith, lb, part-length s start size fits)))
+            | no m ↦
+                ap₂ (λ (x y : Bool). x || y) (le-ltb (length (part s start size)) (length (part s (startGiven r j) (w - 1))) (omega (arith, lb, part-length s start size fits)))
+                (lt-ltb j i (lower (omega arith)))
+          ]
+
+-- ---- whether entry i is stored: it wants w and starts at `start`
+
+module _ (r s : List ℕ) (i w : ℕ) (want : w ≡ wantedGiven r i) where
+  pub stored-missing : w ≡ 0 → false ≡ stored 13 every (entriesGiven r s) i
+  unfolding storedAs
+  stored-missing e = sym (ap (storedAs 13 every (entriesGiven r s) i) (entry-none r s i (wanted-missing r i (omega arith))))
+
+  pub stored-is : Sound r s → i < entryCount → 0 < w → (start : ℕ) → start ≡ startGiven r i → (t : Bool)
+      → t ≡ any 13 (λ (j : ℕ). coveredBy every i (part s start (w - 1)) j (entriesGiven r s j)) → not t ≡ stored 13 every (entriesGiven r s) i
+  unfolding storedAs
+  stored-is sound h pos start at t e =
+      ap not e ∙ sym (ap (storedAs 13 every (entriesGiven r s) i) (lies-at r s i sound h w start want pos at .is))
+
+  -- what a stored entry takes is what it wants
+  pub stored-given : stored 13 every (entriesGiven r s) i ≡ true → 0 < w
+  stored-given st =
+      elim (decLt 0 w) [
+        | yes pos ↦ pos
+        | no l ↦ clash st (sym (stored-missing (omega arith)))
+      ]
+
+  pub size-stored : Sound r s → i < entryCount → (t : Bool) → t ≡ stored 13 every (entriesGiven r s) i → t ≡ true → (w ≡ sizeGiven r s i) × (w ≤ 256)
+  unfolding sizeGiven ofStored
+  size-stored sound h t e on =
+      let st : stored 13 every (entriesGiven r s) i ≡ true = sym e ∙ on in
+      let lies = lies-at r s i sound h w (startGiven r i) want (stored-given st) refl in
+      let whole : length (part s (startGiven r i) (w - 1)) + 1 ≡ w = omega (arith, lies .length-is, stored-given st) in (
+        sym (ap₂ (λ (o : Entry) (b : Bool). ofStored o b (λ (a : List ℕ). length a + 1)) (lies .is) st ∙ whole),
+        lies .small,
+      )
+
+pub size-none : (r s : List ℕ) (i : ℕ) (t : Bool) → t ≡ stored 13 every (entriesGiven r s) i → t ≡ false → 0 ≡ sizeGiven r s i
+unfolding sizeGiven ofStored
+size-none r s i t e off = sym (go (entriesGiven r s i) (stored 13 every (entriesGiven r s) i) (sym e ∙ off))
+  where
+    go : (o : Entry) (b : Bool) → b ≡ false → ofStored o b (λ (a : List ℕ). length a + 1) ≡ 0
+    go none b q = refl
+    go (some a) true q = clash refl q
+    go (some a) false q = refl

@@ -1,0 +1,65 @@
+-- Laws of the heap's writer, each shaped like what the code leaves.
+--     entry-put, entry-kept    an entry that is stored, and one that is not
+--     heap-none, heap-next     the loop over the entries
+--     heap-whole               the stretch once all are written
+-- Assumes nothing.
+use mathlib.Core.Path.{_≡_, refl, sym, ap, ap₂, _∙_}
+use mathlib.Core.Bool.{Bool, true, false}
+use mathlib.Core.Option.{Option, none, some}
+use mathlib.Core.List.{List, [], _∷_, _++_}
+use Prim.Native.Nat.{ℕ, _+_, _-_, _≤_, _<_}
+use native.Mathlib.Numerals.{add-one}
+use native.Mathlib.Omega.{arith}
+use lib.ListN.{length}
+use Rattle.octets.specs.Counting.{sumTo}
+use Rattle.octets.specs.Octets.{part, write}
+use Rattle.octets.proofs.CountingLaws.{clash}
+use Rattle.octets.proofs.WriteLaws.{write-nothing}
+use Rattle.string_heap.specs.Stored.{Entry, every, stored, size, heapSize}
+use Rattle.string_heap.specs.Places.{bytesOf, heapTo}
+use Rattle.string_heap.proofs.HostLaws.{heap-length}
+use Rattle.build_rules.specs.RecordRange.{startGiven}
+use Rattle.ibft_build.specs.Planning.{Sound, entriesGiven, sizeGiven}
+use Rattle.ibft_build.proofs.PlaceLaws.{size-kept, size-gone, size-lies}
+use Rattle.ibft_build.proofs.PatchLaws.{write-then, write-all}
+
+-- entry n takes w
+module _ (r s : List ℕ) (sound : Sound r s) (n : ℕ) (h : n < 13) (w : ℕ) (takes : w ≡ sizeGiven r s n) (t : List ℕ) (at : ℕ) where
+  pub entry-put : 0 < w → (start : ℕ) (bytes u v : List ℕ) → start ≡ startGiven r n → bytes ≡ part s start (w - 1) → u ≡ write t at bytes
+      → v ≡ write u (at + (w - 1)) (0 ∷ []) → v ≡ write t at (bytesOf (entriesGiven r s n) (stored 13 every (entriesGiven r s) n))
+  unfolding bytesOf
+  entry-put pos start bytes u v es eb eu ev =
+      let lies = size-lies r s n sound h w takes pos start es in
+      let long = lies .length-is in
+      write-then t u v at (at + (w - 1)) (part s start (w - 1)) (0 ∷ []) (eu ∙ ap (write t at) eb) ev (omega arith)
+      ∙ sym (ap₂ (λ (o : Entry) (b : Bool). write t at (bytesOf o b)) (lies .is) (size-kept r s n (omega arith)))
+
+  pub entry-kept : w ≡ 0 → t ≡ write t at (bytesOf (entriesGiven r s n) (stored 13 every (entriesGiven r s) n))
+  unfolding bytesOf
+  entry-kept e =
+      sym (ap (write t at) (none-of (entriesGiven r s n) (stored 13 every (entriesGiven r s) n) (size-gone r s n sound h (omega arith))) ∙ write-nothing t at)
+    where
+      none-of : (o : Entry) (b : Bool) → b ≡ false → bytesOf o b ≡ []
+      none-of none b q = refl
+      none-of (some a) true q = clash refl q
+      none-of (some a) false q = refl
+
+module _ (r s t : List ℕ) where
+  pub heap-none : t ≡ write t 0 (heapTo 13 every (entriesGiven r s) 0)
+  unfolding heapTo
+  heap-none = sym (write-nothing t 0)
+
+  pub heap-next : (n at : ℕ) (u v : List ℕ) → u ≡ write t 0 (heapTo 13 every (entriesGiven r s) n) → at ≡ sumTo n (sizeGiven r s)
+      → v ≡ write u at (bytesOf (entriesGiven r s n) (stored 13 every (entriesGiven r s) n)) → v ≡ write t 0 (heapTo 13 every (entriesGiven r s) (n + 1))
+  unfolding heapTo sizeGiven
+  heap-next n at u v e ea ev =
+      write-then t u v 0 at (heapTo 13 every (entriesGiven r s) n) (bytesOf (entriesGiven r s n) (stored 13 every (entriesGiven r s) n)) e ev
+      (omega (arith, heap-length 13 every (entriesGiven r s) n))
+      ∙ ap (λ (m : ℕ). write t 0 (heapTo 13 every (entriesGiven r s) m)) (sym (add-one n))
+
+  pub heap-whole : (n : ℕ) (u : List ℕ) → u ≡ write t 0 (heapTo 13 every (entriesGiven r s) n) → n ≡ 13 → length t ≡ heapSize 13 every (entriesGiven r s)
+      → u ≡ heapTo 13 every (entriesGiven r s) 13
+  unfolding heapSize
+  heap-whole n u e en lt =
+      e ∙ ap (λ (m : ℕ). write t 0 (heapTo 13 every (entriesGiven r s) m)) en
+      ∙ write-all t (heapTo 13 every (entriesGiven r s) 13) (heap-length 13 every (entriesGiven r s) 13 ∙ sym lt)

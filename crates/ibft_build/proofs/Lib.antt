@@ -1,0 +1,16 @@
+pub mod ListLaws
+pub mod RecordLaws
+pub mod TailLaws
+pub mod EntryLaws
+pub mod CoverLaws
+pub mod StartLaws
+pub mod PlaceLaws
+pub mod PlanLaws
+pub mod PatchLaws
+pub mod HeaderLaws
+pub mod StructureLaws
+pub mod HeapLaws
+pub mod TableLaws
+pub mod SoundLaws
+pub mod RefusalLaws
+pub mod BuildLaws

@@ -1,0 +1,207 @@
+-- Laws of where entries stand, each shaped like what the code returns.
+--     sum-none, sum-more           a loop that adds up
+--     sizes-at, sizes-count        what stands in the list of the sizes
+--     sizes-sum                    their sum is the heap's up to there
+--     size-kept, size-gone         whether an entry is stored, by what it takes
+--     host-not, host-tail          whether an entry holds another
+--     host-first                   the first that does
+--     place-self, place-host       where an entry stands
+--     offset-on, offset-off        its offset
+-- Assumes nothing.
+use mathlib.Core.Path.{_≡_, refl, sym, ap, ap₂, _∙_}
+use mathlib.Core.Bool.{Bool, true, false, cond, not, _&&_, _||_}
+use mathlib.Core.Option.{Option, none, some}
+use mathlib.Core.List.{List}
+use Prim.Native.Nat.{ℕ, zero, suc, _+_, _*_, _-_, _≤_, _<_}
+use native.Mathlib.Numerals.{add-one}
+use native.Mathlib.Decide.{decLt}
+use native.Mathlib.Omega.{arith}
+use lib.Dec.{eqb}
+use lib.ListN.{length, getD}
+use Rattle.octets.specs.Counting.{first, sumTo}
+use Rattle.octets.specs.Octets.{part}
+use Rattle.octets.proofs.CountingLaws.{clash, first-is}
+use Rattle.octets.proofs.ReadLaws.{part-length}
+use Rattle.string_heap.specs.Tails.{isTail}
+use Rattle.string_heap.specs.Stored.{Entry, every, stored, storedAs, ofStored, size, heapSize}
+use Rattle.string_heap.specs.Places.{len, endsWith, holds, host, place}
+use Rattle.string_heap.proofs.Intervals.{sumTo-le}
+use Rattle.string_heap.proofs.HostLaws.{hosted, host-self, placed}
+use Rattle.ibft_table.specs.Layout.{entryCount, slotCount}
+use Rattle.build_rules.specs.RecordRange.{entryGiven, lengthGiven, startGiven, bytesGiven, contentGiven}
+use Rattle.build_rules.specs.Plan.{heapStart, offsetAs, offsetBuilt}
+use Rattle.ibft_build.specs.Planning.{Sound, entriesGiven, wantedGiven, sizeGiven, heapSizes}
+use Rattle.ibft_build.proofs.ListLaws.{length-tabulate, getD-tabulate}
+use Rattle.ibft_build.proofs.EntryLaws.{entry-some, entry-none, Lies, lies-at}
+use Rattle.ibft_build.proofs.CoverLaws.{not-tail, stored-given, size-stored, size-none}
+use Rattle.ibft_build.proofs.StartLaws.{end-bound, end-built}
+
+-- ---- sums
+
+pub sum-none : (f : ℕ → ℕ) → 0 ≡ sumTo 0 f
+unfolding sumTo
+sum-none f = refl
+
+pub sum-more : (f : ℕ → ℕ) (i s v : ℕ) → s ≡ sumTo i f → v ≡ f i → s + v ≡ sumTo (i + 1) f
+unfolding sumTo
+sum-more f i s v p q = ap₂ (λ (x y : ℕ). x + y) p q ∙ ap (λ (k : ℕ). sumTo k f) (sym (add-one i))
+
+sum-same : (f g : ℕ → ℕ) (k : ℕ) → ((j : ℕ) → j < k → f j ≡ g j) → sumTo k f ≡ sumTo k g
+unfolding sumTo
+sum-same f g zero h = refl
+sum-same f g (suc k) h = ap₂ (λ (x y : ℕ). x + y) (sum-same f g k (λ j l. h j (omega arith))) (h k (omega arith))
+
+sum-const : (c k : ℕ) → sumTo k (λ (j : ℕ). c) ≡ k * c
+unfolding sumTo
+sum-const c zero = omega arith
+sum-const c (suc k) = omega (arith, sum-const c k)
+
+-- ---- sizes
+
+module _ (r s sizes : List ℕ) (are : sizes ≡ heapSizes r s) where
+  pub sizes-at : (n : ℕ) → n < entryCount → getD sizes n 0 ≡ sizeGiven r s n
+  unfolding heapSizes
+  sizes-at n h = ap (λ (l : List ℕ). getD l n 0) are ∙ getD-tabulate (sizeGiven r s) 0 entryCount n h
+
+  pub sizes-count : length sizes ≡ entryCount
+  unfolding heapSizes
+  sizes-count = ap length are ∙ length-tabulate (sizeGiven r s) 0 entryCount
+
+  pub sizes-sum : (k : ℕ) → k ≤ entryCount → (m : ℕ) → m ≡ sumTo k (λ (j : ℕ). getD sizes j 0) → m ≡ sumTo k (sizeGiven r s)
+  sizes-sum k h m e = e ∙ sum-same (λ (j : ℕ). getD sizes j 0) (sizeGiven r s) k (λ j l. sizes-at j (omega arith))
+
+module _ (r s : List ℕ) (n : ℕ) where
+  pub size-kept : 0 < sizeGiven r s n → stored 13 every (entriesGiven r s) n ≡ true
+  size-kept h = go (stored 13 every (entriesGiven r s) n) refl
+    where
+      go : (b : Bool) → stored 13 every (entriesGiven r s) n ≡ b → b ≡ true
+      go true e = refl
+      go false e = absurd (omega (arith, size-none r s n (stored 13 every (entriesGiven r s) n) refl e))
+
+  pub size-gone : Sound r s → n < entryCount → sizeGiven r s n ≡ 0 → stored 13 every (entriesGiven r s) n ≡ false
+  size-gone sound h zero-size = go (stored 13 every (entriesGiven r s) n) refl
+    where
+      go : (b : Bool) → stored 13 every (entriesGiven r s) n ≡ b → b ≡ false
+      go true st =
+          absurd (omega (arith, stored-given r s n (wantedGiven r n) refl st, size-stored r s n (wantedGiven r n) refl sound h (stored 13 every (entriesGiven r s) n) refl st .0))
+      go false st = refl
+
+  -- an entry that is stored, w what it takes
+  pub size-lies : Sound r s → n < entryCount → (w : ℕ) → w ≡ sizeGiven r s n → 0 < w → (start : ℕ) → start ≡ startGiven r n → Lies r s n w start
+  size-lies sound h w e pos start at =
+      let st = size-kept (omega arith) in
+      let is = size-stored r s n (wantedGiven r n) refl sound h (stored 13 every (entriesGiven r s) n) refl st .0 in
+      lies-at r s n sound h w start (e ∙ sym is) pos at
+
+  pub size-small : Sound r s → n < entryCount → sizeGiven r s n ≤ 256
+  size-small sound h =
+      elim (decLt 0 (sizeGiven r s n)) [
+        | yes pos ↦ size-lies sound h (sizeGiven r s n) refl pos (startGiven r n) refl .small
+        | no l ↦ omega arith
+      ]
+
+pub heap-small : (r s : List ℕ) → Sound r s → heapSize 13 every (entriesGiven r s) ≤ 3328
+unfolding heapSize sizeGiven
+heap-small r s sound =
+    omega (arith, sumTo-le 13 (sizeGiven r s) (λ (j : ℕ). 256) (λ j h. size-small r s j sound h), sum-const 256 13)
+
+-- ---- hosts
+
+and-no : (x y : Bool) → y ≡ false → (x && y) ≡ false
+and-no true y e = e
+and-no false y e = refl
+
+-- entry j takes w
+module _ (r s : List ℕ) (sound : Sound r s) (start size : ℕ) (fits : start + size ≤ length s) (j : ℕ) (h : j < entryCount) (w : ℕ) (takes : w ≡ sizeGiven r s j) where
+  pub host-not : w ≤ size → false ≡ (stored 13 every (entriesGiven r s) j && endsWith (part s start size) (entriesGiven r s j))
+  unfolding endsWith
+  host-not l =
+      elim (decLt 0 w) [
+        | yes pos ↦
+            let lies = size-lies r s j sound h w takes pos (startGiven r j) refl in
+            let short = not-tail (part s start size) (part s (startGiven r j) (w - 1)) (omega (arith, lies .length-is, part-length s start size fits)) in
+            sym (and-no (stored 13 every (entriesGiven r s) j) (endsWith (part s start size) (entriesGiven r s j)) (ap (endsWith (part s start size)) (lies .is) ∙ short))
+        | no m ↦ sym (ap (λ (b : Bool). b && endsWith (part s start size) (entriesGiven r s j)) (size-gone r s j sound h (omega arith)))
+      ]
+
+  pub host-tail : size < w → (at : ℕ) → at ≡ startGiven r j → (t : Bool) → t ≡ isTail (part s start size) (part s at (w - 1))
+      → t ≡ (stored 13 every (entriesGiven r s) j && endsWith (part s start size) (entriesGiven r s j))
+  unfolding endsWith
+  host-tail l at e t is =
+      let lies = size-lies r s j sound h w takes (omega arith) at e in
+      is ∙ sym (ap₂ (λ (b : Bool) (o : Entry). b && endsWith (part s start size) o) (size-kept r s j (omega arith)) (lies .is))
+
+pub host-first : (r s : List ℕ) (i start size j : ℕ) → start ≡ startGiven r i → size ≡ lengthGiven r i → j ≤ 13
+    → ((k : ℕ) → k < j → (stored 13 every (entriesGiven r s) k && endsWith (part s start size) (entriesGiven r s k)) ≡ false)
+    → (j < 13 → (stored 13 every (entriesGiven r s) j && endsWith (part s start size) (entriesGiven r s j)) ≡ true)
+    → j ≡ host 13 every (entriesGiven r s) i (bytesGiven r s i)
+unfolding host holds bytesGiven
+host-first r s i start size j p q h before here =
+    sym (ap₂ (λ (a n : ℕ). host 13 every (entriesGiven r s) i (part s a n)) (sym p) (sym q)
+    ∙ first-is 13 (holds 13 every (entriesGiven r s) i (part s start size)) j h (λ k l. both k ∙ before k l) (λ l. both j ∙ here l))
+  where
+    tidy : (x y z : Bool) → (x && y && (z || (true && true))) ≡ (x && y)
+    tidy true true true = refl
+    tidy true true false = refl
+    tidy true false z = refl
+    tidy false y z = refl
+
+    both : (k : ℕ) → holds 13 every (entriesGiven r s) i (part s start size) k ≡ (stored 13 every (entriesGiven r s) k && endsWith (part s start size) (entriesGiven r s k))
+    both k = tidy (stored 13 every (entriesGiven r s) k) (endsWith (part s start size) (entriesGiven r s k)) (eqb i k)
+
+-- ---- places
+
+module _ (r s : List ℕ) (sound : Sound r s) (i : ℕ) (h : i < entryCount) (given : entryGiven r i ≡ true) where
+  bytes-length : length (bytesGiven r s i) ≡ lengthGiven r i
+  unfolding bytesGiven
+  bytes-length = part-length s (startGiven r i) (lengthGiven r i) (sound .lies i h given)
+
+  pub place-self : 0 < sizeGiven r s i → (m : ℕ) → m ≡ sumTo i (sizeGiven r s) → m ≡ place 13 every (entriesGiven r s) i (bytesGiven r s i)
+  unfolding place len sizeGiven
+  place-self pos m e =
+      let a : List ℕ = bytesGiven r s i in
+      let is = entry-some r s i given in
+      let self : host 13 every (entriesGiven r s) i a ≡ i = host-self 13 every (entriesGiven r s) i a h is (size-kept r s i pos) in
+      let sum : sumTo (host 13 every (entriesGiven r s) i a) (sizeGiven r s) ≡ sumTo i (sizeGiven r s) = ap (λ (k : ℕ). sumTo k (sizeGiven r s)) self in
+      let own : len (entriesGiven r s (host 13 every (entriesGiven r s) i a)) ≡ length a = ap (λ (k : ℕ). len (entriesGiven r s k)) self ∙ ap len is in
+      omega arith
+
+  pub host-below : (j : ℕ) → j ≡ host 13 every (entriesGiven r s) i (bytesGiven r s i) → j < entryCount
+  host-below j e = omega (arith, hosted 13 every (entriesGiven r s) i (bytesGiven r s i) h (entry-some r s i given) .below)
+
+  pub place-host : (j : ℕ) → j ≡ host 13 every (entriesGiven r s) i (bytesGiven r s i) → (w l m : ℕ) → w ≡ sizeGiven r s j → l ≡ lengthGiven r i → m ≡ sumTo j (sizeGiven r s)
+      → (l + 1 ≤ w) × (m + (w - 1 - l) ≡ place 13 every (entriesGiven r s) i (bytesGiven r s i))
+  unfolding place len sizeGiven ofStored
+  place-host j e w l m ew el em =
+      let a : List ℕ = bytesGiven r s i in
+      let host-is = hosted 13 every (entriesGiven r s) i a h (entry-some r s i given) in
+      let k : ℕ = host 13 every (entriesGiven r s) i a in
+      let size-is : sizeGiven r s k ≡ length (host-is .b) + 1 =
+      ap₂ (λ (o : Entry) (b : Bool). ofStored o b (λ (x : List ℕ). length x + 1)) (host-is .is) (host-is .kept) in
+      let own : len (entriesGiven r s k) ≡ length (host-is .b) = ap len (host-is .is) in
+      let fits = host-is .ends .fits in
+      let la = bytes-length in
+      let size-j : w ≡ sizeGiven r s k = ew ∙ ap (sizeGiven r s) e in
+      let sum-j : m ≡ sumTo k (sizeGiven r s) = em ∙ ap (λ (x : ℕ). sumTo x (sizeGiven r s)) e in
+      (omega arith, omega arith)
+
+-- ---- offsets
+
+pub heap-start-small : (r s : List ℕ) → heapStart (contentGiven r s) ≤ 611
+unfolding heapStart
+heap-start-small r s = omega (arith, end-built r s slotCount, end-bound r slotCount)
+
+module _ (r s : List ℕ) (i : ℕ) where
+  pub offset-on : Sound r s → i < entryCount → entryGiven r i ≡ true → (heap p : ℕ) → heap ≡ heapStart (contentGiven r s)
+      → p ≡ place 13 every (entriesGiven r s) i (bytesGiven r s i) → (p ≤ 3328) × (heap ≤ 611) × (heap + p ≡ offsetBuilt (contentGiven r s) i)
+  unfolding offsetBuilt offsetAs
+  offset-on sound h given heap p eh ep =
+      let stands = placed 13 every (entriesGiven r s) i (bytesGiven r s i) h (entry-some r s i given) in (
+        omega (arith, stands .high, heap-small r s sound),
+        omega (arith, heap-start-small r s),
+        ap₂ (λ (x y : ℕ). x + y) eh ep ∙ sym (ap (offsetAs (contentGiven r s) i) (entry-some r s i given)),
+      )
+
+  pub offset-off : entryGiven r i ≡ false → 0 ≡ offsetBuilt (contentGiven r s) i
+  unfolding offsetBuilt offsetAs
+  offset-off off = sym (ap (offsetAs (contentGiven r s) i) (entry-none r s i off))

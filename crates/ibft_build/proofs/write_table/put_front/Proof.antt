@@ -1,0 +1,18 @@
+-- `put_front` meets its contract: Control stands right behind the header. Assumes nothing.
+use native.Mathlib.Omega.{arith}
+use lib.ListN.{length-take, length-drop}
+use Rattle.ibft_build.proofs.TableLaws.{front-is}
+use borrow.Author.Needs.{needs}
+use Rattle.ibft_build.proofs.write_table.put_front.Statement.{statement}
+use Rattle.ibft_build.proofs.write_table.put_front.Tie as tie
+
+put-control-requires : tie.Need-put-control-requires
+put-control-requires c κs = let p = c .before .before .before .before .before .before .before .before .pre in (search needs, p .2)
+
+returns : tie.Need-returns
+returns c =
+    let p = c .before .before .before .before .before .before .before .before .before .before .before .pre in
+    front-is _ _ _ _ _ (p .1) (p .0) (c .before .before .before .before .before .before .put-header .ensures) (c .before .before .put-control .ensures)
+
+pub put-front-spec : {M : Type 1} → statement M
+put-front-spec = tie.close (tie.spec (search needs) (search needs) (search needs) (search needs) (search needs) (search needs) (search needs) put-control-requires (search needs) returns)

@@ -1,0 +1,26 @@
+-- `put_table` meets its contract: the checksum is set last. Assumes nothing.
+use native.Mathlib.Omega.{arith}
+use Rattle.octets.proofs.WriteLaws.{length-written}
+use Rattle.ibft_build.proofs.PlanLaws.{planned}
+use Rattle.ibft_build.proofs.TableLaws.{bare-length, table-is}
+use borrow.Author.Needs.{needs}
+use Rattle.ibft_build.proofs.write_table.put_table.Statement.{statement}
+use Rattle.ibft_build.proofs.write_table.put_table.Tie as tie
+
+put-checksum-requires : tie.Need-put-checksum-requires
+put-checksum-requires c κs =
+    let p = c .before .before .before .before .before .before .before .before .before .pre in
+    let size = planned _ _ _ (p .1) .length-are in
+    omega (arith, p .2, length-written _ _ _ _ (c .before .before .before .put-bare .ensures))
+
+returns : tie.Need-returns
+returns c =
+    let p = c .before .before .before .before .before .before .before .before .before .before .before .before .pre in
+    let plan = planned _ _ _ (p .1) in
+    let size = plan .length-are in
+    let whole = plan .whole in
+    let low = plan .low in
+    table-is _ _ _ _ _ (bare-length _ _ (p .0) _ _ (plan .ends-are) (plan .offsets-are)) (omega arith) (p .2) size (c .before .before .before .before .before .before .put-bare .ensures) (c .before .before .put-checksum .ensures)
+
+pub put-table-spec : {M : Type 1} → statement M
+put-table-spec = tie.close (tie.spec (search needs) (λ c κs. search needs) put-checksum-requires (search needs) returns)

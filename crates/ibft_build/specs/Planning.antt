@@ -1,0 +1,71 @@
+-- What a build plans before it writes, as the code keeps it: a list for all entries or all structures, made once.
+-- Assumes nothing: these are definitions.
+use mathlib.Core.Path.{_≡_}
+use mathlib.Core.List.{List}
+use mathlib.Core.Bool.{Bool, true, cond}
+use Prim.Native.Nat.{ℕ, _+_, _≤_, _<_}
+use lib.ListN.{length}
+use Rattle.octets.specs.Counting.{tabulate}
+use Rattle.string_heap.specs.Stored.{Entry, every, size}
+use Rattle.string_heap.specs.Starts.{align8, endTo}
+use Rattle.ibft_table.specs.Layout.{kindOf, slotCount, entryCount, controlEnd, builtSlot}
+use Rattle.build_rules.specs.RecordRange.{rangeSize, structureGiven, entryGiven, lengthGiven, startGiven, contentGiven}
+use Rattle.build_rules.specs.Plan.{turnOf, lengthBuilt, offsetBuilt}
+use Rattle.build_rules.specs.Build.{answerOf, roomAfter}
+use Rattle.build_rules.specs.declared.Built.{Built}
+use Rattle.ibft_build.specs.declared.plan.Plan.{Plan}
+
+-- what the plan takes for granted, since the refusals come first: the range is whole, and each present entry lies in the strings
+-- range and is not too long
+pub record Sound (r s : List ℕ) : Type 0 where
+  pub whole : length r ≡ rangeSize
+  pub lies : (n : ℕ) → n < entryCount → entryGiven r n ≡ true → startGiven r n + lengthGiven r n ≤ length s
+  pub short : (n : ℕ) → n < entryCount → entryGiven r n ≡ true → lengthGiven r n ≤ 255
+
+-- the entries
+abbrev pub entriesGiven : List ℕ → List ℕ → ℕ → Entry
+entriesGiven r s = (contentGiven r s) .entry
+
+-- what entry n takes in the heap where it is stored, its bytes and one zero; 0 where it is missing
+unfoldable pub wantedGiven : List ℕ → ℕ → ℕ
+wantedGiven r n = cond (entryGiven r n) (lengthGiven r n + 1) 0
+
+unfoldable pub wantedSizes : List ℕ → List ℕ
+wantedSizes r = tabulate (wantedGiven r) 0 entryCount
+
+-- what each entry takes in the heap
+unfoldable pub sizeGiven : List ℕ → List ℕ → ℕ → ℕ
+sizeGiven r s n = size entryCount every (entriesGiven r s) n
+
+unfoldable pub heapSizes : List ℕ → List ℕ → List ℕ
+heapSizes r s = tabulate (sizeGiven r s) 0 entryCount
+
+-- where each entry stands
+unfoldable pub entryOffsets : List ℕ → List ℕ → List ℕ
+entryOffsets r s = tabulate (offsetBuilt (contentGiven r s)) 0 entryCount
+
+-- where the first j structures of the build's order end, and all of these places
+unfoldable pub endGiven : List ℕ → ℕ → ℕ
+endGiven r j = endTo (λ (i : ℕ). structureGiven r (builtSlot i)) (λ (i : ℕ). (kindOf (builtSlot i)) .length) controlEnd j
+
+unfoldable pub structureEnds : List ℕ → List ℕ
+structureEnds r = tabulate (endGiven r) 0 (slotCount + 1)
+
+-- where slot k's structure starts, 0 where it is absent
+unfoldable pub structureStart : List ℕ → ℕ → ℕ
+structureStart r k = cond (structureGiven r k) (align8 (endGiven r (turnOf k))) 0
+
+-- the whole plan
+unfoldable pub planOf : List ℕ → List ℕ → Plan
+planOf r s =
+    record {
+      ends = structureEnds r;
+      sizes = heapSizes r s;
+      offsets = entryOffsets r s;
+      length = lengthBuilt (contentGiven r s);
+    }
+
+-- what a build leaves: its answer and the room after it are the definitions'
+pub record Ends (r s before : List ℕ) (answer : Built) (after : List ℕ) : Type 0 where
+  pub answer-is : answer ≡ answerOf r s (length before)
+  pub room-is : after ≡ roomAfter r s before

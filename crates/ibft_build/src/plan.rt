@@ -1,0 +1,35 @@
+// The plan: all that the build works out before it writes the first byte.
+use crate::offsets::entry_offsets;
+use crate::offsets::sum_below;
+use crate::starts::structure_ends;
+use crate::stored::heap_sizes;
+use ibft_table::layout::ENTRY_COUNT;
+use ibft_table::layout::SLOT_COUNT;
+ghost use mathlib.Core.Path.{_≡_};
+ghost use Rattle.ibft_build.specs.Planning.{Sound, planOf};
+
+// Where the first j structures of the build's order end, for each j (the last is the heap's start); what each entry takes in
+// the heap, and its offset; the table's Length.
+pub(crate) struct Plan {
+    pub ends: [u16; SLOT_COUNT as usize + 1],
+    pub sizes: [u16; ENTRY_COUNT as usize],
+    pub offsets: [u16; ENTRY_COUNT as usize],
+    pub length: u32,
+}
+
+pub(crate) fn plan_of(range: &[u8], strings: &[u8]) -> Plan
+    requires { ⌜ Sound (now range) (now strings) ⌝ }
+    ensures { λ r. ⌜ r ≡ planOf (now (range .entry)) (now (strings .entry)) ⌝ }
+{
+    let ends = structure_ends(range);
+    let heap = ends[SLOT_COUNT as usize];
+    let sizes = heap_sizes(range, strings);
+    let offsets = entry_offsets(range, strings, &sizes, heap);
+    let length = heap as u32 + sum_below(&sizes, ENTRY_COUNT);
+    Plan {
+        ends: ends,
+        sizes: sizes,
+        offsets: offsets,
+        length: length,
+    }
+}

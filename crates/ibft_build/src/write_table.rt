@@ -1,0 +1,65 @@
+// The whole table into the room: header, Control, structures, heap, each into its own stretch, and the checksum last.
+use crate::plan::Plan;
+use crate::write_header::put_control;
+use crate::write_header::put_header;
+use crate::write_heap::put_heap;
+use crate::write_structure::put_structures;
+use ibft_table::layout::SLOT_COUNT;
+use octets::sum::checksum;
+use octets::write::put_byte;
+ghost use mathlib.Core.Path.{_≡_};
+ghost use mathlib.Core.List.{[], _∷_, _++_};
+ghost use Prim.Native.Nat.{_≤_};
+ghost use lib.ListN.{length, take, drop};
+ghost use Rattle.octets.specs.Octets.{checksum, write};
+ghost use Rattle.build_rules.specs.RecordRange.{contentGiven};
+ghost use Rattle.build_rules.specs.Plan.{lengthBuilt};
+ghost use Rattle.build_rules.specs.TableBytes.{bareTable, tableOf};
+ghost use Rattle.ibft_build.specs.Planning.{Sound, structureEnds, planOf};
+ghost use Rattle.ibft_build.specs.Writing.{headerWith, controlWith};
+
+// Where the checksum stands.
+const CHECKSUM_AT: usize = 9;
+
+// Writes the header and Control, for a table of this Length.
+fn put_front(room: &mut [u8], range: &[u8], ends: &[u16], size: u32)
+    requires { ⌜ (66 ≤ length (now room)) × (length (now range) ≡ 419) × (now ends ≡ structureEnds (now range)) ⌝ }
+    ensures { λ _. ⌜ now (room .exit) ≡ write (now (room .entry)) 0 (headerWith (now (range .entry)) size ++ controlWith (now (range .entry))) ⌝ }
+{
+    put_header(&mut room[0..48], range, size);
+    put_control(&mut room[48..66], range, ends);
+}
+
+// Writes all but the checksum.
+fn put_bare(room: &mut [u8], range: &[u8], strings: &[u8], plan: Plan)
+    requires { ⌜ Sound (now range) (now strings) × (plan ≡ planOf (now range) (now strings)) × (lengthBuilt (contentGiven (now range) (now strings)) ≤ length (now room)) ⌝ }
+    ensures { λ _. ⌜ now (room .exit) ≡ write (now (room .entry)) 0 (bareTable (contentGiven (now (range .entry)) (now (strings .entry)))) ⌝ }
+{
+    let ends = plan.ends;
+    put_front(room, range, &ends, plan.length);
+    let offsets = plan.offsets;
+    put_structures(room, range, &ends, &offsets);
+    let start = ends[SLOT_COUNT as usize] as usize;
+    let end = plan.length as usize;
+    let sizes = plan.sizes;
+    put_heap(&mut room[start..end], range, strings, &sizes);
+}
+
+// Sets the checksum of the table that the first `size` bytes are.
+fn put_checksum(room: &mut [u8], size: usize)
+    requires { ⌜ size ≤ length (now room) ⌝ }
+    ensures { λ _. ⌜ now (room .exit) ≡ write (now (room .entry)) 9 (checksum (take size (now (room .entry))) 9 ∷ []) ⌝ }
+{
+    let byte = checksum(&room[..size], CHECKSUM_AT);
+    put_byte(room, CHECKSUM_AT, byte);
+}
+
+// Writes the table of a plan that the room has space for. Room past Length keeps its bytes.
+pub(crate) fn put_table(room: &mut [u8], range: &[u8], strings: &[u8], plan: Plan)
+    requires { ⌜ Sound (now range) (now strings) × (plan ≡ planOf (now range) (now strings)) × (lengthBuilt (contentGiven (now range) (now strings)) ≤ length (now room)) ⌝ }
+    ensures { λ _. ⌜ now (room .exit) ≡ tableOf (contentGiven (now (range .entry)) (now (strings .entry))) ++ drop (lengthBuilt (contentGiven (now (range .entry)) (now (strings .entry)))) (now (room .entry)) ⌝ }
+{
+    let size = plan.length as usize;
+    put_bare(room, range, strings, plan);
+    put_checksum(room, size);
+}

@@ -1,0 +1,246 @@
+//! Document 01, "Building" and the build's refusals, read a second time: each refusal once, in the
+//! order of the build, then the table.
+
+use crate::model_check::{is_zero_after_first_zero, refuse_if, Refusal, Verdict};
+use crate::model_host_name::is_host_name;
+use crate::model_layout::*;
+use crate::model_record::{fields, record_given, Record};
+use crate::model_record_range::*;
+
+/// The place of Control's flags in a build.
+pub const CONTROL_PLACE: u64 = 255;
+
+/// Slots in the order in which their structures stand: initiator, NIC 0, NIC 1, Target 0, Target 1.
+pub const BUILT_ORDER: [usize; 5] = [0, 1, 3, 2, 4];
+
+/// The table that is built into a room of the given size.
+pub fn build(record: &[u8], strings: &[u8], room_size: usize) -> Result<Vec<u8>, Refusal> {
+    let table = least_table(record, strings)?;
+    refuse_if(table.len() > room_size, 21, 0)?;
+    Ok(table)
+}
+
+/// The table of a record whose contents are not refused, whatever the room.
+pub fn least_table(record: &[u8], strings: &[u8]) -> Result<Vec<u8>, Refusal> {
+    check_range(record)?;
+    check_oem_fields(record)?;
+    check_control_flags(record)?;
+    for slot in 0..SLOTS.len() {
+        check_image(record, slot)?;
+    }
+    for entry in 0..ENTRIES.len() {
+        check_entry(record, strings, entry)?;
+    }
+    Ok(table_of(&record_given(record, strings)))
+}
+
+// ---- Refusals ----
+
+/// 25.
+fn check_range(record: &[u8]) -> Verdict {
+    refuse_if(record.len() != RECORD_SIZE, 25, 0)?;
+    let marks = [&record[SLOT_MARKS], &record[ENTRY_MARKS]].concat();
+    refuse_if(marks.iter().any(|mark| *mark > 1), 25, 0)
+}
+
+/// 8, at the field's place in a table.
+fn check_oem_fields(record: &[u8]) -> Verdict {
+    for (given, built) in [(GIVEN_OEM_ID, OEM_ID), (GIVEN_OEM_TABLE_ID, OEM_TABLE_ID)] {
+        let place = built.start as u64;
+        refuse_if(!is_zero_after_first_zero(&record[given]), 8, place)?;
+    }
+    Ok(())
+}
+
+/// Control's 10.
+fn check_control_flags(record: &[u8]) -> Verdict {
+    let flags = u64::from(record[GIVEN_CONTROL_FLAGS]);
+    refuse_if(flags & !CONTROL.named_flags != 0, 10, CONTROL_PLACE)
+}
+
+/// 10 and 19 of a structure that is present.
+fn check_image(record: &[u8], slot: usize) -> Verdict {
+    if !is_slot_given(record, slot) {
+        return Ok(());
+    }
+    let kind = &SLOTS[slot].kind;
+    let flags = byte(record, IMAGES[slot] + FLAGS_AT);
+    refuse_if(flags & !kind.named_flags != 0, 10, slot as u64)?;
+    if kind.id == TARGET.id {
+        let chap_type = byte(record, IMAGES[slot] + CHAP_TYPE_AT);
+        refuse_if(chap_type > LAST_CHAP_TYPE, 19, slot as u64)?;
+    }
+    Ok(())
+}
+
+/// 24, 17, 20, 18 of an entry that is present.
+fn check_entry(record: &[u8], strings: &[u8], entry: usize) -> Verdict {
+    if !is_entry_given(record, entry) {
+        return Ok(());
+    }
+    let Entry {
+        longest,
+        is_host_name: must_be_host_name,
+        ..
+    } = ENTRIES[entry];
+    let place = entry as u64;
+    let (length, start) = given_words(record, entry);
+    refuse_if(start + length > strings.len() as u64, 24, place)?;
+    refuse_if(length > longest, 17, place)?;
+    let text = &strings[start as usize..(start + length) as usize];
+    refuse_if(text.contains(&0), 20, place)?;
+    refuse_if(must_be_host_name && !is_host_name(text), 18, place)
+}
+
+// ---- The table ----
+
+pub fn table_of(record: &Record) -> Vec<u8> {
+    let starts = starts(record);
+    let heap_start = heap_start_of(&starts);
+    let heap = Heap::of(&record.entries);
+    let mut table = vec![0; heap_start as usize];
+    write_header(&mut table, record);
+    write_control(&mut table, record, &starts);
+    for (slot, start) in starts.iter().enumerate() {
+        if let Some(start) = start {
+            write_structure(&mut table, record, slot, *start);
+        }
+    }
+    for entry in 0..ENTRIES.len() {
+        if let Some(text) = &record.entries[entry] {
+            let at = starts[ENTRIES[entry].slot].unwrap() + ENTRIES[entry].at;
+            let offset = heap_start + heap.offset(entry, text);
+            write_number(&mut table, at, 2, text.len() as u64);
+            write_number(&mut table, at + 2, 2, offset);
+        }
+    }
+    table.extend(heap.bytes());
+    let length = table.len() as u64;
+    write_number(&mut table, LENGTH, 4, length);
+    let sum: u64 = table.iter().map(|byte| u64::from(*byte)).sum();
+    write_number(&mut table, CHECKSUM, 1, (256 - sum % 256) % 256);
+    table
+}
+
+/// By slot: the first structure at 72, each next at the next multiple of 8.
+fn starts(record: &Record) -> Vec<Option<u64>> {
+    let mut starts = vec![None; SLOTS.len()];
+    let mut next = FIRST_START;
+    for slot in BUILT_ORDER {
+        if record.structures[slot].is_some() {
+            starts[slot] = Some(next);
+            next += SLOTS[slot].kind.length;
+            while next % ALIGNMENT != 0 {
+                next += 1;
+            }
+        }
+    }
+    starts
+}
+
+/// Where the last structure ends, Control counted.
+fn heap_start_of(starts: &[Option<u64>]) -> u64 {
+    let end = |slot: usize| starts[slot].map_or(0, |start| start + SLOTS[slot].kind.length);
+    (0..SLOTS.len()).map(end).fold(CONTROL_END, u64::max)
+}
+
+fn write_number(table: &mut [u8], at: u64, width: usize, number: u64) {
+    let at = at as usize;
+    table[at..at + width].copy_from_slice(&number.to_le_bytes()[..width]);
+}
+
+fn write_header(table: &mut [u8], record: &Record) {
+    table[..SIGNATURE.len()].copy_from_slice(SIGNATURE);
+    write_number(table, REVISION, 1, 1);
+    table[OEM_ID].copy_from_slice(&record.oem_id);
+    table[OEM_TABLE_ID].copy_from_slice(&record.oem_table_id);
+}
+
+fn write_control(table: &mut [u8], record: &Record, starts: &[Option<u64>]) {
+    write_start_bytes(table, CONTROL_START, &CONTROL, 0);
+    write_number(table, CONTROL_START + FLAGS_AT, 1, record.control_flags);
+    for (slot, start) in SLOTS.iter().zip(starts) {
+        write_number(table, slot.word, 2, start.unwrap_or(0));
+    }
+}
+
+/// ID, Version, Length and Index.
+fn write_start_bytes(table: &mut [u8], start: u64, kind: &Kind, index: u64) {
+    write_number(table, start, 1, kind.id);
+    write_number(table, start + VERSION_AT, 1, VERSION);
+    write_number(table, start + LENGTH_AT, 2, kind.length);
+    write_number(table, start + INDEX_AT, 1, index);
+}
+
+fn write_structure(table: &mut [u8], record: &Record, slot: usize, start: u64) {
+    write_start_bytes(table, start, &SLOTS[slot].kind, SLOTS[slot].index);
+    if let Some(given) = &record.structures[slot] {
+        table[start as usize..][fields(slot)].copy_from_slice(given);
+    }
+}
+
+// ---- The heap ----
+
+/// A present entry is stored unless it is the tail of a longer present entry or equals one with a
+/// lower number.
+fn is_stored(entries: &[Option<Vec<u8>>], entry: usize) -> bool {
+    let text = match &entries[entry] {
+        Some(text) => text,
+        None => return false,
+    };
+    let stands_for_it = |(number, other): (usize, &Option<Vec<u8>>)| match other {
+        Some(other) => {
+            let is_tail_of_longer = other.len() > text.len() && other.ends_with(text);
+            let equals_lower = number < entry && other == text;
+            is_tail_of_longer || equals_lower
+        }
+        None => false,
+    };
+    !entries.iter().enumerate().any(stands_for_it)
+}
+
+/// Where the strings stand: who stores bytes, by number, and what all of that comes to.
+pub struct Heap {
+    pub stored: Vec<(usize, Vec<u8>)>,
+}
+
+impl Heap {
+    pub fn of(entries: &[Option<Vec<u8>>]) -> Heap {
+        let numbers = (0..entries.len()).filter(|entry| is_stored(entries, *entry));
+        let with_text = |entry: usize| (entry, entries[entry].clone().unwrap());
+        Heap {
+            stored: numbers.map(with_text).collect(),
+        }
+    }
+
+    /// Stored entries by number, each with one zero.
+    fn bytes(&self) -> Vec<u8> {
+        let closed = self
+            .stored
+            .iter()
+            .map(|(_, text)| [text, &[0][..]].concat());
+        closed.flatten().collect()
+    }
+
+    /// The entry that stores the bytes of an entry with this text: itself where it is stored, else
+    /// the lowest-numbered stored entry that ends with it.
+    pub fn owner(&self, entry: usize, text: &[u8]) -> usize {
+        let itself = self.stored.iter().find(|(number, _)| *number == entry);
+        let ends_with_it = self.stored.iter().find(|(_, owner)| owner.ends_with(text));
+        itself.or(ends_with_it).unwrap().0
+    }
+
+    /// Where a present entry stands, counted from the heap's start.
+    fn offset(&self, entry: usize, text: &[u8]) -> u64 {
+        let owner = self.owner(entry, text);
+        let mut end = 0;
+        for (number, stored) in &self.stored {
+            end += stored.len();
+            if *number == owner {
+                break;
+            }
+            end += 1;
+        }
+        (end - text.len()) as u64
+    }
+}

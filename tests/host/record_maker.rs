@@ -1,0 +1,194 @@
+//! Records for the tests, laid as C gives them to a build. Nothing here keeps a caller from giving
+//! what is refused; that is what damage is made of.
+
+use crate::model_layout::*;
+use crate::model_record_range::*;
+use crate::table_maker::dots_between;
+
+/// What a build is given beside the room.
+#[derive(Clone)]
+pub struct Given {
+    pub record: Vec<u8>,
+    strings: Vec<u8>,
+    /// Are the strings lent from the record's own bytes? Both are only read, so they may be.
+    pub strings_are_the_record: bool,
+    /// The size of the room, where it is to be this one.
+    pub room_size: Option<usize>,
+}
+
+impl Given {
+    /// Nothing present. The record's other bytes are those of `filler`.
+    pub fn new(filler: &[u8]) -> Given {
+        let mut record = filler.to_vec();
+        record[..IMAGES[0] as usize].fill(0);
+        Given {
+            record,
+            strings: Vec::new(),
+            strings_are_the_record: false,
+            room_size: None,
+        }
+    }
+
+    pub fn into_room(mut self, size: usize) -> Given {
+        self.room_size = Some(size);
+        self
+    }
+
+    pub fn strings(&self) -> &[u8] {
+        if self.strings_are_the_record {
+            &self.record
+        } else {
+            &self.strings
+        }
+    }
+
+    pub fn strings_mut(&mut self) -> &mut Vec<u8> {
+        if self.strings_are_the_record {
+            &mut self.record
+        } else {
+            &mut self.strings
+        }
+    }
+
+    // ---- Structures ----
+
+    pub fn mark_slot(&mut self, slot: usize, mark: u8) {
+        self.record[SLOT_MARKS.start + slot] = mark;
+    }
+
+    pub fn has_slot(&self, slot: usize) -> bool {
+        is_slot_given(&self.record, slot)
+    }
+
+    pub fn set_control_flags(&mut self, flags: u8) {
+        self.record[GIVEN_CONTROL_FLAGS] = flags;
+    }
+
+    /// Sets a byte of a slot's image.
+    pub fn set(&mut self, slot: usize, at: u64, byte: u8) {
+        self.record[(IMAGES[slot] + at) as usize] = byte;
+    }
+
+    pub fn set_flags(&mut self, slot: usize, flags: u8) {
+        self.set(slot, FLAGS_AT, flags);
+    }
+
+    // ---- Strings ----
+
+    pub fn mark_entry(&mut self, entry: usize, mark: u8) {
+        self.record[ENTRY_MARKS.start + entry] = mark;
+    }
+
+    /// The entries that are part of the record.
+    pub fn present_entries(&self) -> Vec<usize> {
+        (0..ENTRIES.len())
+            .filter(|entry| is_entry_given(&self.record, *entry))
+            .collect()
+    }
+
+    /// The entries whose structure is present.
+    pub fn owned_entries(&self) -> Vec<usize> {
+        (0..ENTRIES.len())
+            .filter(|entry| self.has_slot(ENTRIES[*entry].slot))
+            .collect()
+    }
+
+    /// Sets the two words of an entry.
+    pub fn point(&mut self, entry: usize, start: usize, length: usize) {
+        let at = given_words_at(entry) as usize;
+        self.record[at..at + 2].copy_from_slice(&(length as u16).to_le_bytes());
+        self.record[at + 2..at + 4].copy_from_slice(&(start as u16).to_le_bytes());
+    }
+
+    /// An entry's length, and its start in the strings.
+    pub fn words(&self, entry: usize) -> (usize, usize) {
+        let (length, start) = given_words(&self.record, entry);
+        (length as usize, start as usize)
+    }
+
+    /// Adds the bytes at the end of the strings, and gives the entry these.
+    pub fn give(&mut self, entry: usize, text: &[u8]) {
+        let start = self.strings.len();
+        self.strings.extend_from_slice(text);
+        self.mark_entry(entry, 1);
+        self.point(entry, start, text.len());
+    }
+}
+
+// ---- Records that the tests know by name ----
+
+/// Structures and strings, every flag and field zero.
+pub fn record_with(slots: &[usize], texts: &[(usize, &[u8])]) -> Given {
+    let mut given = Given::new(&[0; RECORD_SIZE]);
+    for slot in slots {
+        given.mark_slot(*slot, 1);
+    }
+    for (entry, text) in texts {
+        given.give(*entry, text);
+    }
+    given
+}
+
+/// Document 01's case 5: Target 0 alone, CHAP name `depot7`, and its last byte as reverse name.
+pub fn case_5() -> Given {
+    let mut given = record_with(&[2], &[(3, b"depot7"), (5, b"7")]);
+    given.set_flags(2, VALID as u8);
+    given
+}
+
+const ALL_SLOTS: [usize; 5] = [0, 1, 2, 3, 4];
+
+/// A common record: initiator, NIC 0 and Target 0, with four strings, one the tail of another. Its
+/// table has 414 bytes.
+pub fn common_record() -> Given {
+    let texts: [(usize, &[u8]); 4] = [
+        (0, b"iqn.2026-11.example.depot:cabinet-0417"),
+        (1, b"cabinet-0417.depot.example"),
+        (2, b"iqn.2026-11.example.depot:volume-0417"),
+        (3, b"cabinet-0417"),
+    ];
+    let mut given = record_with(&[0, 1, 2], &texts);
+    for slot in [0, 1, 2] {
+        given.set_flags(slot, (VALID | SELECTED) as u8);
+    }
+    given
+}
+
+/// The worst record: thirteen strings, each as long as it may be and a host name with a dot at every
+/// other byte, and all of them equal from the back but for the first byte. None is a tail, and who
+/// compares from the back has to go through them all. Its table has 3,702 bytes, the most there is.
+pub fn worst_record() -> Given {
+    let mut given = record_with(&ALL_SLOTS, &[]);
+    for (i, entry) in ENTRIES.iter().enumerate() {
+        let mut text = dots_between((entry.longest as usize + 1) / 2, b'a');
+        text[0] = b'b' + i as u8;
+        given.give(i, &text);
+    }
+    given
+}
+
+/// All five structures, and each of the thirteen strings with bytes of its own, but for the tail
+/// that Target 1's CHAP name is of Target 0's.
+pub fn full_record() -> Given {
+    let texts: [(usize, &[u8]); 13] = [
+        (0, b"iqn.i"),
+        (1, b"ab.c-d"),
+        (2, b"iqn.t0"),
+        (3, b"name0"),
+        (4, b"secret0"),
+        (5, b"back0"),
+        (6, b"hush0"),
+        (7, b"e."),
+        (8, b"iqn.t1"),
+        (9, b"me0"),
+        (10, b"secret1"),
+        (11, b"back1"),
+        (12, b"hush1"),
+    ];
+    let mut given = record_with(&ALL_SLOTS, &texts);
+    for (slot, flags) in [(0, 3), (1, 7), (2, 1), (3, 1), (4, 3)] {
+        given.set_flags(slot, flags);
+    }
+    given.set_control_flags(SINGLE_LOGIN as u8);
+    given
+}
