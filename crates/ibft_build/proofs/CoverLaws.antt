@@ -5,7 +5,7 @@
 -- Assumes nothing.
 use mathlib.Core.Path.{_≡_, refl, sym, ap, ap₂, _∙_}
 use mathlib.Core.Bool.{Bool, true, false, not, _&&_, _||_}
-use mathlib.Core.Option.{Option, none, some}
+use mathlib.Core.Option.{none, some}
 use mathlib.Core.List.{List}
 use Prim.Native.Nat.{ℕ, _+_, _-_, _≤_, _<_}
 use native.Mathlib.Omega.{arith}
@@ -21,9 +21,9 @@ use Rattle.string_heap.specs.Tails.{agree, isTail}
 use Rattle.string_heap.proofs.TailsLaws.{agree-le}
 use Rattle.string_heap.specs.Stored.{Entry, every, covers, coveredBy, stored, storedAs, ofStored}
 use Rattle.ibft_table.specs.Layout.{entryCount}
-use Rattle.build_rules.specs.RecordRange.{entryGiven, startGiven}
+use Rattle.build_rules.specs.RecordRange.{startGiven}
 use Rattle.ibft_build.specs.Planning.{Sound, entriesGiven, wantedGiven, sizeGiven}
-use Rattle.ibft_build.proofs.EntryLaws.{entry-none, wanted-missing, Lies, lies-at}
+use Rattle.ibft_build.proofs.EntryLaws.{entry-none, wanted-missing, lies-at}
 
 -- what is longer is no tail
 pub not-tail : (a b : List ℕ) → length b < length a → isTail a b ≡ false

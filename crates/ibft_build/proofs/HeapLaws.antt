@@ -5,9 +5,9 @@
 -- Assumes nothing.
 use mathlib.Core.Path.{_≡_, refl, sym, ap, ap₂, _∙_}
 use mathlib.Core.Bool.{Bool, true, false}
-use mathlib.Core.Option.{Option, none, some}
-use mathlib.Core.List.{List, [], _∷_, _++_}
-use Prim.Native.Nat.{ℕ, _+_, _-_, _≤_, _<_}
+use mathlib.Core.Option.{none, some}
+use mathlib.Core.List.{List, [], _∷_}
+use Prim.Native.Nat.{ℕ, _+_, _-_, _<_}
 use native.Mathlib.Numerals.{add-one}
 use native.Mathlib.Omega.{arith}
 use lib.ListN.{length}
@@ -15,7 +15,7 @@ use Rattle.octets.specs.Counting.{sumTo}
 use Rattle.octets.specs.Octets.{part, write}
 use Rattle.octets.proofs.CountingLaws.{clash}
 use Rattle.octets.proofs.WriteLaws.{write-nothing}
-use Rattle.string_heap.specs.Stored.{Entry, every, stored, size, heapSize}
+use Rattle.string_heap.specs.Stored.{Entry, every, stored, heapSize}
 use Rattle.string_heap.specs.Places.{bytesOf, heapTo}
 use Rattle.string_heap.proofs.HostLaws.{heap-length}
 use Rattle.build_rules.specs.RecordRange.{startGiven}

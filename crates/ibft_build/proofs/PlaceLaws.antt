@@ -9,8 +9,7 @@
 --     offset-on, offset-off        its offset
 -- Assumes nothing.
 use mathlib.Core.Path.{_≡_, refl, sym, ap, ap₂, _∙_}
-use mathlib.Core.Bool.{Bool, true, false, cond, not, _&&_, _||_}
-use mathlib.Core.Option.{Option, none, some}
+use mathlib.Core.Bool.{Bool, true, false, _&&_, _||_}
 use mathlib.Core.List.{List}
 use Prim.Native.Nat.{ℕ, zero, suc, _+_, _*_, _-_, _≤_, _<_}
 use native.Mathlib.Numerals.{add-one}
@@ -18,12 +17,12 @@ use native.Mathlib.Decide.{decLt}
 use native.Mathlib.Omega.{arith}
 use lib.Dec.{eqb}
 use lib.ListN.{length, getD}
-use Rattle.octets.specs.Counting.{first, sumTo}
+use Rattle.octets.specs.Counting.{sumTo}
 use Rattle.octets.specs.Octets.{part}
-use Rattle.octets.proofs.CountingLaws.{clash, first-is}
+use Rattle.octets.proofs.CountingLaws.{first-is}
 use Rattle.octets.proofs.ReadLaws.{part-length}
 use Rattle.string_heap.specs.Tails.{isTail}
-use Rattle.string_heap.specs.Stored.{Entry, every, stored, storedAs, ofStored, size, heapSize}
+use Rattle.string_heap.specs.Stored.{Entry, every, stored, ofStored, size, heapSize}
 use Rattle.string_heap.specs.Places.{len, endsWith, holds, host, place}
 use Rattle.string_heap.proofs.Intervals.{sumTo-le}
 use Rattle.string_heap.proofs.HostLaws.{hosted, host-self, placed}

@@ -4,13 +4,13 @@
 --     plan-is      the plan from its parts
 --     planned      what a plan says, part by part
 -- Assumes nothing.
-use mathlib.Core.Path.{_≡_, refl, sym, ap, ap₂, _∙_}
+use mathlib.Core.Path.{_≡_, sym, ap, ap₂, _∙_}
 use mathlib.Core.List.{List}
-use Prim.Native.Nat.{ℕ, _+_, _≤_, _<_}
+use Prim.Native.Nat.{ℕ, _+_, _≤_}
 use native.Mathlib.Omega.{arith}
 use lib.ListN.{length, getD}
 use Rattle.octets.specs.Counting.{sumTo}
-use Rattle.string_heap.specs.Stored.{every, size, heapSize}
+use Rattle.string_heap.specs.Stored.{every, heapSize}
 use Rattle.ibft_table.specs.Layout.{slotCount, entryCount}
 use Rattle.build_rules.specs.RecordRange.{contentGiven}
 use Rattle.build_rules.specs.Plan.{heapStart, lengthBuilt, offsetBuilt}

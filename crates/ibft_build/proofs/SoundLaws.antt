@@ -2,8 +2,8 @@
 -- long. This is what the plan and the writers take for granted.
 --     accepted-sound     contents not refused are sound
 -- Assumes nothing.
-use mathlib.Core.Path.{_≡_, refl, sym, ap, _∙_}
-use mathlib.Core.Bool.{Bool, true, false, cond, not}
+use mathlib.Core.Path.{_≡_, refl, ap, _∙_}
+use mathlib.Core.Bool.{Bool, true, false, cond}
 use mathlib.Core.List.{List, [], _∷_, _++_}
 use Prim.Native.Nat.{ℕ, zero, suc, _+_, _≤_, _<_}
 use native.Mathlib.Nat.{zero-add}
@@ -15,8 +15,6 @@ use Rattle.octets.specs.Counting.{any, gather}
 use Rattle.octets.proofs.CountingLaws.{any-none}
 use Rattle.ibft_table.specs.Layout.{slotCount, entryCount, stringOf}
 use Rattle.ibft_table.specs.Verdict.{Test, firstOf}
-use Rattle.ibft_table.specs.declared.verdict.Refusal.{Refusal}
-use Rattle.ibft_table.specs.declared.verdict.Verdict.{Verdict}
 use Rattle.ibft_table.specs.declared.verdict.Verdict.the-variants.{Accepted, Refused}
 use Rattle.build_rules.specs.Computing.{computing}
 use Rattle.build_rules.specs.RecordRange.{rangeSize, entryGiven, lengthGiven, startGiven}

@@ -9,9 +9,8 @@
 -- Assumes nothing.
 use mathlib.Core.Path.{_≡_, refl, sym, ap, ap₂, _∙_}
 use mathlib.Core.Bool.{Bool, true, false, cond}
-use mathlib.Core.Option.{Option, none, some}
 use mathlib.Core.List.{List}
-use Prim.Native.Nat.{ℕ, zero, suc, _+_, _*_, _-_, _≤_, _<_}
+use Prim.Native.Nat.{ℕ, zero, suc, _+_, _*_, _≤_, _<_}
 use native.Mathlib.Numerals.{add-one}
 use native.Mathlib.Decide.{decLt}
 use native.Mathlib.Omega.{arith}
@@ -20,7 +19,7 @@ use lib.ListN.{length, getD, List·getD-eq-default}
 use borrow.Author.Tests.{ne-eqb}
 use Rattle.octets.proofs.CountingLaws.{first-le, first-is}
 use Rattle.string_heap.specs.Starts.{align8, endTo}
-use Rattle.ibft_table.specs.Layout.{Kind, Slot, slotOf, kindOf, slotCount, builtOrder, builtSlot}
+use Rattle.ibft_table.specs.Layout.{slotOf, kindOf, slotCount, builtOrder, builtSlot}
 use Rattle.ibft_table.specs.Record.{shownIf}
 use Rattle.build_rules.specs.RecordRange.{structureGiven, contentGiven}
 use Rattle.build_rules.specs.Plan.{isPresent, turnOf, endBuilt, startBuilt}

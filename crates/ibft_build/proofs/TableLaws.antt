@@ -6,32 +6,31 @@
 -- Assumes nothing.
 use mathlib.Core.Path.{_≡_, refl, sym, ap, ap₂, _∙_}
 use mathlib.Core.Bool.{Bool, true, false, cond}
-use mathlib.Core.Option.{Option, none, some}
 use mathlib.Core.List.{List, [], _∷_, _++_, append-assoc}
-use Prim.Native.Nat.{ℕ, _+_, _*_, _-_, _≤_, _<_}
+use Prim.Native.Nat.{ℕ, _+_, _-_, _≤_, _<_}
 use native.Mathlib.Omega.{arith}
 use lib.ListN.{length, getD, take, drop, set, length-append}
 use lib.Seq.{take-add, take-at, set-append-left}
 use borrow.Rule.Slice.PartMut.{putMid}
 use Rattle.octets.specs.Counting.{gather}
-use Rattle.octets.specs.Octets.{byte, part, le16, le32, zeros, checksum, write}
+use Rattle.octets.specs.Octets.{byte, part, le16, zeros, checksum, write}
 use Rattle.octets.proofs.ReadLaws.{part-length}
 use Rattle.octets.proofs.WriteLaws.{length-zeros, length-written, set-write, write-front}
-use Rattle.string_heap.specs.Stored.{Entry, every, heapSize}
+use Rattle.string_heap.specs.Stored.{every, heapSize}
 use Rattle.string_heap.specs.Places.{len, heapTo}
 use Rattle.string_heap.specs.Starts.{align8}
 use Rattle.string_heap.proofs.HostLaws.{heap-length}
 use Rattle.ibft_table.specs.Layout.{control, kindOf, indexOf, firstEntry, slotCount, entryCount, builtSlot}
 use Rattle.ibft_table.specs.Record.{Content, bodySize, shownIf}
 use Rattle.build_rules.specs.RecordRange.{imageAt, structureGiven, entryGiven, lengthGiven, startGiven, bytesGiven, contentGiven}
-use Rattle.build_rules.specs.Plan.{endBuilt, startBuilt, heapStart, lengthBuilt, offsetBuilt}
+use Rattle.build_rules.specs.Plan.{startBuilt, heapStart, lengthBuilt, offsetBuilt}
 use Rattle.build_rules.specs.TableBytes.{headerBytes, startBytes, controlBytes, wordsBuilt, structureBytes, stretchAs, stretch, bareTable, tableOf}
-use Rattle.ibft_build.specs.Planning.{Sound, entriesGiven, endGiven, structureEnds, structureStart, entryOffsets}
+use Rattle.ibft_build.specs.Planning.{Sound, entriesGiven, structureEnds, entryOffsets}
 use Rattle.ibft_build.specs.Writing.{headerStart, headerWith, startWord, controlWith, lengthWord, wordsWith, structureWith, stretchWith}
-use Rattle.ibft_build.proofs.ListLaws.{length-tabulate, getD-tabulate}
+use Rattle.ibft_build.proofs.ListLaws.{getD-tabulate}
 use Rattle.ibft_build.proofs.EntryLaws.{entry-some, entry-none}
 use Rattle.ibft_build.proofs.StartLaws.{built-below, ends-at, end-built, start-built}
-use Rattle.ibft_build.proofs.PatchLaws.{write-mid, write-then, gather-same, gather-length}
+use Rattle.ibft_build.proofs.PatchLaws.{write-mid, write-then, gather-same}
 use Rattle.ibft_build.proofs.HeaderLaws.{start-words-size}
 use Rattle.ibft_build.proofs.StructureLaws.{slot-fits, word-on, word-off, structures-end}
 

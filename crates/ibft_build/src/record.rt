@@ -36,22 +36,18 @@ const TARGET_1_AT: u16 = NIC_1_AT + Nic::LENGTH;
 
 pub(crate) const RANGE_SIZE: u16 = TARGET_1_AT + Target::LENGTH;
 
-const IMAGES: [u16; SLOT_COUNT as usize] = [
-    INITIATOR_AT,
-    NIC_0_AT,
-    TARGET_0_AT,
-    NIC_1_AT,
-    TARGET_1_AT,
-];
-
 // Where slot k's image starts. (Past the last slot the layout has initiators, and so have the images.)
 pub(crate) fn image_at(k: u8) -> u16
     ensures { λ r. ⌜ r ≡ imageAt k ⌝ }
 {
-    if k < SLOT_COUNT {
-        return IMAGES[k as usize];
+    match k {
+        0 => INITIATOR_AT,
+        1 => NIC_0_AT,
+        2 => TARGET_0_AT,
+        3 => NIC_1_AT,
+        4 => TARGET_1_AT,
+        _ => RANGE_SIZE + (k - SLOT_COUNT) as u16 * Initiator::LENGTH,
     }
-    RANGE_SIZE + (k - SLOT_COUNT) as u16 * Initiator::LENGTH
 }
 
 // Is slot k's structure present?

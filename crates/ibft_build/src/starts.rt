@@ -12,19 +12,17 @@ ghost use Rattle.build_rules.specs.RecordRange.{structureGiven};
 ghost use Rattle.build_rules.specs.Plan.{turnOf};
 ghost use Rattle.ibft_build.specs.Planning.{structureEnds, structureStart};
 
-// The build's order as slots (initiator, NIC 0, NIC 1, Target 0, Target 1), and the turn of each slot in it.
-const BUILT_ORDER: [u8; SLOT_COUNT as usize] = [0, 1, 3, 2, 4];
-
-const TURNS: [u8; SLOT_COUNT as usize] = [0, 1, 3, 2, 4];
-
-// The slot that is j-th in the build's order; past the last, slot 0.
+// The slot that is j-th in the build's order: initiator, NIC 0, NIC 1, Target 0, Target 1; past the last, slot 0.
 pub(crate) fn built_slot(j: u8) -> u8
     ensures { λ r. ⌜ r ≡ builtSlot j ⌝ }
 {
-    if j < SLOT_COUNT {
-        BUILT_ORDER[j as usize]
-    } else {
-        0
+    match j {
+        0 => 0,
+        1 => 1,
+        2 => 3,
+        3 => 2,
+        4 => 4,
+        _ => 0,
     }
 }
 
@@ -32,10 +30,13 @@ pub(crate) fn built_slot(j: u8) -> u8
 fn turn_of(k: u8) -> u8
     ensures { λ r. ⌜ r ≡ turnOf k ⌝ }
 {
-    if k < SLOT_COUNT {
-        TURNS[k as usize]
-    } else {
-        SLOT_COUNT
+    match k {
+        0 => 0,
+        1 => 1,
+        2 => 3,
+        3 => 2,
+        4 => 4,
+        _ => SLOT_COUNT,
     }
 }
 

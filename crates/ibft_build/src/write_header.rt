@@ -9,7 +9,6 @@ use octets::write::put_bytes;
 use octets::write::put_u16;
 use octets::write::put_zeros;
 ghost use mathlib.Core.Path.{_≡_};
-ghost use Prim.Native.Nat.{_≤_};
 ghost use lib.ListN.{length};
 ghost use Rattle.octets.specs.Counting.{gather};
 ghost use Rattle.octets.specs.Octets.{write};

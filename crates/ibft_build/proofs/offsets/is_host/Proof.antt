@@ -1,5 +1,4 @@
 -- `is_host` meets its contract: an entry that is not stored or shorter holds none; else the tail decides. Assumes nothing.
-use mathlib.Core.Path.{sym, ap, _∙_}
 use native.Mathlib.Omega.{arith}
 use Rattle.ibft_build.proofs.PlaceLaws.{sizes-at, sizes-count, size-lies, host-not, host-tail}
 use borrow.Author.Needs.{needs}
@@ -21,7 +20,7 @@ is-tail-requires : tie.Need-is-tail-requires
 is-tail-requires c κs =
     let p = c .before .before .before .before .before .before .pre in
     let lies = size-lies _ _ _ (p .0) (p .3) _ (sizes-at _ _ _ (p .1) _ (p .3)) (omega arith) _ (c .entry-start .ensures) in
-    (p .2, lies .fits)
+    (p .2, lies .fits, omega arith)
 
 returns-2 : tie.Need-returns-2
 returns-2 c =

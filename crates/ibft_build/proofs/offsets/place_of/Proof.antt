@@ -1,8 +1,6 @@
 -- `place_of` meets its contract: a stored entry is its own host, any other has the rest of its host before it. Assumes nothing.
-use mathlib.Core.Path.{_≡_, refl, sym, ap, _∙_}
-use Prim.Native.Nat.{_<_, _≤_}
+use mathlib.Core.Path.{refl}
 use native.Mathlib.Omega.{arith}
-use Rattle.ibft_build.specs.Planning.{sizeGiven}
 use Rattle.ibft_build.proofs.PlaceLaws.{sizes-at, sizes-count, sizes-sum, host-below, place-self, place-host}
 use borrow.Author.Needs.{needs}
 use Rattle.ibft_build.proofs.offsets.place_of.Statement.{statement}

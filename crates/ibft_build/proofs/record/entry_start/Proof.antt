@@ -3,10 +3,6 @@ use Rattle.build_rules.specs.RecordRange.{startGiven}
 use borrow.Author.Needs.{needs}
 use Rattle.ibft_build.proofs.record.entry_start.Statement.{statement}
 use Rattle.ibft_build.proofs.record.entry_start.Tie as tie
-use Rattle.ibft_build.proofs.record.entry_start.Reads as reads
-use Rattle.ibft_build.proofs.record.entry_start.Lts as lts
-use Rattle.ibft_build.proofs.record.field_at.Reads as field-at-reads
-use Rattle.octets.proofs.read.u16_at.Reads as u16-at-reads
 
 returns : tie.Need-returns
 unfolding startGiven

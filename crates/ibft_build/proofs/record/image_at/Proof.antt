@@ -1,21 +1,23 @@
--- `image_at` meets its contract: the code's table lists where the images start, and past it they go on by initiators. Assumes nothing.
-use Rattle.octets.specs.Counting.{sumTo, tabulate}
+-- `image_at` meets its contract: the arms list where the images start, and past them they go on by initiators. Assumes nothing.
+use mathlib.Core.Path.{sym, ap}
+use Prim.Native.Nat.{ℕ}
+use native.Mathlib.Omega.{arith}
+use borrow.Author.Needs.{needs}
+use Rattle.octets.specs.Counting.{sumTo}
 use Rattle.ibft_table.specs.Layout.{slotOf, kindOf}
 use Rattle.build_rules.specs.RecordRange.{imageAt}
-use Rattle.ibft_build.proofs.ListLaws.{getD-tabulate}
 use Rattle.ibft_build.proofs.RecordLaws.{image-past}
-use borrow.Author.Needs.{needs}
 use Rattle.ibft_build.proofs.record.image_at.Statement.{statement}
 use Rattle.ibft_build.proofs.record.image_at.Tie as tie
-use Rattle.ibft_build.proofs.record.image_at.Reads as reads
-use Rattle.ibft_build.proofs.record.image_at.Lts as lts
 
-returns : tie.Need-returns
-unfolding imageAt sumTo kindOf slotOf tabulate
-returns c = getD-tabulate imageAt 0 5 (c .before .args .k) (c .if1 .taken)
+abbrev listed : ℕ → ℕ
+listed n = imageAt n
 
-returns-2 : tie.Need-returns-2
-returns-2 c = image-past (c .before .args .k) (c .if1 .left)
+past : tie.Need-returns-6
+past c = image-past (c .before .args .k) (omega arith)
 
 pub image-at-spec : {M : Type 1} → statement M
-image-at-spec = tie.close (tie.spec (search needs) (search needs) returns (search needs) (search needs) (search needs) returns-2)
+unfolding imageAt sumTo kindOf slotOf
+image-at-spec =
+    tie.close
+    (tie.spec (search needs) (search needs) (search needs) (search needs) (λ c. sym (ap listed (c .match .keys1))) (λ c. sym (ap listed (c .match .keys2))) (λ c. sym (ap listed (c .match .keys3))) (λ c. sym (ap listed (c .match .keys4))) (λ c. sym (ap listed (c .match .keys5))) past)

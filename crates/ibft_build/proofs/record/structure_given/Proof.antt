@@ -6,9 +6,6 @@ use Rattle.build_rules.specs.RecordRange.{structureGiven}
 use borrow.Author.Needs.{needs}
 use Rattle.ibft_build.proofs.record.structure_given.Statement.{statement}
 use Rattle.ibft_build.proofs.record.structure_given.Tie as tie
-use Rattle.ibft_build.proofs.record.structure_given.Reads as reads
-use Rattle.ibft_build.proofs.record.structure_given.Lts as lts
-use Rattle.octets.proofs.read.byte_at.Reads as byte-at-reads
 
 returns : tie.Need-returns
 unfolding structureGiven

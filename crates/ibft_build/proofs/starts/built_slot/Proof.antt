@@ -1,18 +1,20 @@
--- `built_slot` meets its contract: the code's table lists the order. Assumes nothing.
+-- `built_slot` meets its contract: the arms list the order. Assumes nothing.
+use mathlib.Core.Path.{sym, ap}
+use Prim.Native.Nat.{ℕ}
+use native.Mathlib.Omega.{arith}
 use Rattle.ibft_table.specs.Layout.{builtSlot}
-use Rattle.octets.specs.Counting.{tabulate}
-use Rattle.ibft_build.proofs.ListLaws.{getD-tabulate}
 use Rattle.ibft_build.proofs.StartLaws.{built-past}
-use borrow.Author.Needs.{needs}
 use Rattle.ibft_build.proofs.starts.built_slot.Statement.{statement}
 use Rattle.ibft_build.proofs.starts.built_slot.Tie as tie
 
-returns : tie.Need-returns
-unfolding builtSlot
-returns c = search needs
+abbrev listed : ℕ → ℕ
+listed n = builtSlot n
 
-returns-2 : tie.Need-returns-2
-returns-2 c = built-past (c .before .args .j) (c .if1 .left)
+past : tie.Need-returns-6
+past c = built-past (c .before .args .j) (omega arith)
 
 pub built-slot-spec : {M : Type 1} → statement M
-built-slot-spec = tie.close (tie.spec (search needs) returns returns-2)
+unfolding builtSlot
+built-slot-spec =
+    tie.close
+    (tie.spec (λ c. sym (ap listed (c .match .keys1))) (λ c. sym (ap listed (c .match .keys2))) (λ c. sym (ap listed (c .match .keys3))) (λ c. sym (ap listed (c .match .keys4))) (λ c. sym (ap listed (c .match .keys5))) past)

@@ -1,9 +1,8 @@
 -- `structure_ends` meets its contract: the elements passed are the ends, and the next one follows from the last. Assumes nothing.
-use mathlib.Core.Path.{_≡_, _∙_}
+use mathlib.Core.Path.{_≡_}
 use Prim.Native.Nat.{ℕ, _+_, _-_, _≤_, _<_}
 use native.Mathlib.Omega.{arith}
 use lib.ListN.{length, getD, length-set}
-use borrow.Author.Count.{below-more, below-none}
 use Rattle.ibft_build.specs.Planning.{endGiven, structureEnds}
 use Rattle.ibft_build.proofs.ListLaws.{tabulate-more, tabulate-done}
 use Rattle.ibft_build.proofs.StartLaws.{end-first, end-more, end-bound}

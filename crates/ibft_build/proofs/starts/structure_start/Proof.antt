@@ -1,5 +1,5 @@
 -- `structure_start` meets its contract: a present structure starts at the next multiple of 8 behind those of earlier turns. Assumes nothing.
-use mathlib.Core.Path.{sym, ap, _∙_}
+use mathlib.Core.Path.{sym, _∙_}
 use Prim.Native.Nat.{_≤_}
 use native.Mathlib.Omega.{arith}
 use Rattle.ibft_build.proofs.StartLaws.{turn-le, ends-at, ends-count, ends-bound, start-on, start-off}

@@ -1,5 +1,4 @@
 -- `heap_size` meets its contract: a stored entry takes what it wants, any other nothing. Assumes nothing.
-use mathlib.Core.Path.{sym, ap, _∙_}
 use native.Mathlib.Omega.{arith}
 use Rattle.ibft_build.proofs.EntryLaws.{wanted-at, wanted-count}
 use Rattle.ibft_build.proofs.CoverLaws.{size-stored, size-none}

@@ -1,5 +1,4 @@
 -- `is_covered_by` meets its contract: a missing or shorter entry covers none, one as long only with a lower number; else the tail decides. Assumes nothing.
-use mathlib.Core.Path.{sym, ap, _∙_}
 use mathlib.Core.Logic.{⊎-elim}
 use native.Mathlib.Omega.{arith}
 use Rattle.ibft_build.proofs.EntryLaws.{wanted-at, wanted-count, lies-at}
@@ -28,7 +27,7 @@ is-tail-requires : tie.Need-is-tail-requires
 is-tail-requires c κs =
     let p = c .before .before .before .before .before .before .before .pre in
     let lies = lies-at _ _ _ (p .0) (p .3) _ _ (wanted-at _ _ (p .1) _ (p .3)) (omega arith) (c .entry-start .ensures) in
-    (p .2, lies .fits)
+    (p .2, lies .fits, omega arith)
 
 returns-3 : tie.Need-returns-3
 returns-3 c =

@@ -1,5 +1,4 @@
 -- `is_stored` meets its contract: a missing entry is not, a present one where no entry covers it. Assumes nothing.
-use mathlib.Core.Path.{sym, ap, _∙_}
 use native.Mathlib.Omega.{arith}
 use Rattle.ibft_build.proofs.EntryLaws.{wanted-at, wanted-count, lies-at}
 use Rattle.ibft_build.proofs.CoverLaws.{stored-missing, stored-is}

@@ -1,6 +1,6 @@
 -- `put_heap` meets its contract: the entries passed are written, and the next stands where their sizes sum to. Assumes nothing.
 use mathlib.Core.Path.{_≡_, refl}
-use Prim.Native.Nat.{ℕ, _*_, _-_, _≤_}
+use Prim.Native.Nat.{_*_, _-_, _≤_}
 use native.Mathlib.Omega.{arith}
 use lib.ListN.{length}
 use Rattle.octets.specs.Counting.{sumTo}

@@ -13,61 +13,36 @@ put-front-requires : tie.Need-put-front-requires
 put-front-requires c κs =
     let p = c .before .before .before .before .before .before .pre in
     let plan = planned _ _ _ (p .1) in
-    let start = plan .whole in
-    let low = plan .low in
-    let high = plan .high in
-    let size = plan .length-are in
     (omega (arith, p .2), p .0 .whole, plan .ends-are)
 
 put-structures-requires : tie.Need-put-structures-requires
 put-structures-requires c κs =
     let p = c .before .before .before .before .before .before .before .before .before .before .before .before .before .pre in
     let plan = planned _ _ _ (p .1) in
-    let start = plan .whole in
-    let low = plan .low in
-    let high = plan .high in
-    let size = plan .length-are in
-    let end = plan .end in
     (plan .ends-are, p .0 .whole, plan .offsets-count, omega (arith, p .2, length-written _ _ _ _ (c .before .before .before .before .before .before .put-front .ensures)))
 
 cast-start-2 : tie.Need-cast-start-2
 cast-start-2 c =
     let p = c .before .before .before .before .before .before .before .before .before .before .before .before .before .before .before .before .pre in
     let plan = planned _ _ _ (p .1) in
-    let start = plan .whole in
-    let low = plan .low in
-    let high = plan .high in
-    let size = plan .length-are in
     omega arith
 
 sub-put-heap : tie.Need-sub-put-heap
 sub-put-heap c =
     let p = c .before .before .before .before .before .before .before .before .before .before .before .before .before .before .before .before .before .before .pre in
     let plan = planned _ _ _ (p .1) in
-    let start = plan .whole in
-    let low = plan .low in
-    let high = plan .high in
-    let size = plan .length-are in
     omega arith
 
 part-put-heap-start : tie.Need-part-put-heap-start
 part-put-heap-start c =
     let p = c .before .before .before .before .before .before .before .before .before .before .before .before .before .before .before .before .before .before .pre in
     let plan = planned _ _ _ (p .1) in
-    let start = plan .whole in
-    let low = plan .low in
-    let high = plan .high in
-    let size = plan .length-are in
     search needs
 
 part-put-heap-end : tie.Need-part-put-heap-end
 part-put-heap-end c =
     let p = c .before .before .before .before .before .before .before .before .before .before .before .before .before .before .before .before .before .before .pre in
     let plan = planned _ _ _ (p .1) in
-    let start = plan .whole in
-    let low = plan .low in
-    let high = plan .high in
-    let size = plan .length-are in
     let fits = p .2 in
     let front = length-written _ _ _ _ (c .before .before .before .before .before .before .before .before .before .before .before .put-front .ensures) in
     let structures = length-written _ _ _ _ (c .before .before .before .before .put-structures .ensures) in
@@ -77,10 +52,6 @@ put-heap-requires : tie.Need-put-heap-requires
 put-heap-requires c κs =
     let p = c .before .before .before .before .before .before .before .before .before .before .before .before .before .before .before .before .before .before .before .before .pre in
     let plan = planned _ _ _ (p .1) in
-    let start = plan .whole in
-    let low = plan .low in
-    let high = plan .high in
-    let size = plan .length-are in
     let fits = p .2 in
     let front = length-written _ _ _ _ (c .before .before .before .before .before .before .before .before .before .before .before .before .before .put-front .ensures) in
     let structures = length-written _ _ _ _ (c .before .before .before .before .before .before .put-structures .ensures) in

@@ -1,6 +1,4 @@
 -- `put_front` meets its contract: Control stands right behind the header. Assumes nothing.
-use native.Mathlib.Omega.{arith}
-use lib.ListN.{length-take, length-drop}
 use Rattle.ibft_build.proofs.TableLaws.{front-is}
 use borrow.Author.Needs.{needs}
 use Rattle.ibft_build.proofs.write_table.put_front.Statement.{statement}
