@@ -118,6 +118,81 @@ fn case_5_rooms(table: &[u8]) {
     case_5(b"case 5 into 200", table, &mut large);
 }
 
+// Where the record range holds each entry's length; its start stands 2 further. Names 0, 2 and 8 have at most 223 bytes.
+fn field_of(n: u8) -> u16 {
+    match n {
+        0 => 103,
+        1 => 205,
+        2 => 243,
+        3 => 247,
+        4 => 251,
+        5 => 255,
+        6 => 259,
+        7 => 361,
+        8 => 399,
+        9 => 403,
+        10 => 407,
+        11 => 411,
+        _ => 415,
+    }
+}
+
+fn longest(n: u8) -> u16 {
+    match n {
+        0 => 223,
+        2 => 223,
+        8 => 223,
+        _ => 255,
+    }
+}
+
+// Entry n of the largest record has four labels of its own letter.
+fn letter(n: u8, k: u8) -> u8 {
+    if k % 64 == 63 { b'.' } else { b'a' + n % 26 }
+}
+
+// It stands at 256 x n of the strings.
+fn lay_string(strings: &mut [u8], n: u8) {
+    for k in 0..255u8 {
+        put_byte(strings, 256 * n as usize + k as usize, letter(n, k));
+    }
+}
+
+fn lay_entry(range: &mut [u8], strings: &mut [u8], n: u8) {
+    lay_string(strings, n);
+    let field = field_of(n) as usize;
+    put_u16(range, field, longest(n));
+    put_u16(range, field + 2, 256 * (n % 13) as u16);
+}
+
+fn lay_entries(range: &mut [u8], strings: &mut [u8]) {
+    for n in 0..13u8 {
+        lay_entry(range, strings, n);
+    }
+}
+
+// The largest record there is, into as many bytes as it takes and into one less.
+fn largest() {
+    let mut range = [0u8; 419];
+    let mut strings = [0u8; 3328];
+    let marks = [1u8; 18];
+    put_bytes(&mut range, SLOT_MARKS, &marks);
+    lay_entries(&mut range, &mut strings);
+    let mut exact = [0u8; 3702];
+    print_built(
+        b"largest record into 3702",
+        build(&range, &strings, &mut exact),
+    );
+    print_check(&exact);
+    end_line();
+    let mut small = [0u8; 3701];
+    print_built(
+        b"largest record into 3701",
+        build(&range, &strings, &mut small),
+    );
+    end_line();
+}
+
 fn main() {
     let mut input = io::buffer();
     let n = io::read_full(0, &mut input);
@@ -125,4 +200,5 @@ fn main() {
     long_name(b"initiator name of 223", 223);
     long_name(b"initiator name of 224", 224);
     case_5_rooms(table);
+    largest();
 }
