@@ -1,4 +1,4 @@
--- One name that opens every definition of this crate and of those below, for theorems that compute (written by keys.py).
+-- One name that opens every definition of this crate and of those below, for theorems that compute. It says nothing.
 use Prim.Native.Nat.{ℕ}
 use Rattle.octets.specs.Computing.{computing as of-octets}
 use Rattle.hostname.specs.Computing.{computing as of-hostname}

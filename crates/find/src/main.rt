@@ -1,6 +1,6 @@
 // Finds the iBFT in a memory dump: `find ADDRESS`, with the dump on standard input. ADDRESS is where the dump's first byte
 // stood, in decimal or, behind 0x, in hexadecimal. Prints `table` with the table's address and Length, or `refused` with the
-// number of the refusal.
+// number of the refusal and its place, which is 0.
 use scan::Family;
 use scan::Scanned;
 
@@ -80,6 +80,7 @@ fn print_scanned(s: Scanned) {
     } else {
         io::write_all(1, b"refused ");
         io::print_decimal(1, s.number as u64);
+        io::write_all(1, b" 0");
     }
     io::write_all(1, b"\n");
 }

@@ -22,7 +22,7 @@ use Rattle.string_heap.proofs.TailsLaws.{agree-le}
 use Rattle.string_heap.specs.Stored.{Entry, every, covers, coveredBy, stored, storedAs, ofStored}
 use Rattle.ibft_table.specs.Layout.{entryCount}
 use Rattle.build_rules.specs.RecordRange.{startGiven}
-use Rattle.ibft_build.specs.Planning.{Sound, entriesGiven, wantedGiven, sizeGiven}
+use Rattle.ibft_build.specs.Planning.{Readable, entriesGiven, wantedGiven, sizeGiven}
 use Rattle.ibft_build.proofs.EntryLaws.{entry-none, wanted-missing, lies-at}
 
 -- what is longer is no tail
@@ -39,7 +39,7 @@ and-one true y z p = p
 and-one false y z p = refl
 
 -- entry i has the `size` bytes from `start` on, entry j wants w
-module _ (r s : List ℕ) (i start size j : ℕ) (sound : Sound r s) (fits : start + size ≤ length s) (h : j < entryCount) (w : ℕ) (want : w ≡ wantedGiven r j) where
+module _ (r s : List ℕ) (i start size j : ℕ) (sound : Readable r s) (fits : start + size ≤ length s) (h : j < entryCount) (w : ℕ) (want : w ≡ wantedGiven r j) where
   present : 0 < w → (a : List ℕ) → coveredBy every i a j (entriesGiven r s j) ≡ covers i a j (part s (startGiven r j) (w - 1))
   unfolding coveredBy
   present pos a = ap (coveredBy every i a j) (lies-at r s j sound h w (startGiven r j) want pos refl .is)
@@ -88,7 +88,7 @@ module _ (r s : List ℕ) (i w : ℕ) (want : w ≡ wantedGiven r i) where
   unfolding storedAs
   stored-missing e = sym (ap (storedAs 13 every (entriesGiven r s) i) (entry-none r s i (wanted-missing r i (omega arith))))
 
-  pub stored-is : Sound r s → i < entryCount → 0 < w → (start : ℕ) → start ≡ startGiven r i → (t : Bool)
+  pub stored-is : Readable r s → i < entryCount → 0 < w → (start : ℕ) → start ≡ startGiven r i → (t : Bool)
       → t ≡ any 13 (λ (j : ℕ). coveredBy every i (part s start (w - 1)) j (entriesGiven r s j)) → not t ≡ stored 13 every (entriesGiven r s) i
   unfolding storedAs
   stored-is sound h pos start at t e =
@@ -102,7 +102,7 @@ module _ (r s : List ℕ) (i w : ℕ) (want : w ≡ wantedGiven r i) where
         | no l ↦ clash st (sym (stored-missing (omega arith)))
       ]
 
-  pub size-stored : Sound r s → i < entryCount → (t : Bool) → t ≡ stored 13 every (entriesGiven r s) i → t ≡ true → (w ≡ sizeGiven r s i) × (w ≤ 256)
+  pub size-stored : Readable r s → i < entryCount → (t : Bool) → t ≡ stored 13 every (entriesGiven r s) i → t ≡ true → (w ≡ sizeGiven r s i) × (w ≤ 256)
   unfolding sizeGiven ofStored
   size-stored sound h t e on =
       let st : stored 13 every (entriesGiven r s) i ≡ true = sym e ∙ on in

@@ -16,7 +16,7 @@ use Rattle.octets.proofs.ReadLaws.{part-length}
 use Rattle.ibft_table.specs.Layout.{entryCount}
 use Rattle.ibft_table.specs.Record.{shownIf}
 use Rattle.build_rules.specs.RecordRange.{entryGiven, lengthGiven, startGiven, bytesGiven, contentGiven}
-use Rattle.ibft_build.specs.Planning.{Sound, entriesGiven, wantedGiven, wantedSizes}
+use Rattle.ibft_build.specs.Planning.{Readable, entriesGiven, wantedGiven, wantedSizes}
 use Rattle.ibft_build.proofs.ListLaws.{length-tabulate, getD-tabulate}
 
 module _ (r s : List ℕ) (n : ℕ) where
@@ -69,7 +69,7 @@ pub record Lies (r s : List ℕ) (n w start : ℕ) : Type 0 where
   pub length-is : length (part s start (w - 1)) ≡ w - 1
   pub small : w ≤ 256
 
-pub lies-at : (r s : List ℕ) (n : ℕ) → Sound r s → n < entryCount → (w start : ℕ) → w ≡ wantedGiven r n → 0 < w → start ≡ startGiven r n → Lies r s n w start
+pub lies-at : (r s : List ℕ) (n : ℕ) → Readable r s → n < entryCount → (w start : ℕ) → w ≡ wantedGiven r n → 0 < w → start ≡ startGiven r n → Lies r s n w start
 unfolding bytesGiven
 lies-at r s n sound h w start e pos at =
     let on = wanted-given r n (omega arith) in

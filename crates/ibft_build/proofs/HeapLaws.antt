@@ -19,12 +19,12 @@ use Rattle.string_heap.specs.Stored.{Entry, every, stored, heapSize}
 use Rattle.string_heap.specs.Places.{bytesOf, heapTo}
 use Rattle.string_heap.proofs.HostLaws.{heap-length}
 use Rattle.build_rules.specs.RecordRange.{startGiven}
-use Rattle.ibft_build.specs.Planning.{Sound, entriesGiven, sizeGiven}
+use Rattle.ibft_build.specs.Planning.{Readable, entriesGiven, sizeGiven}
 use Rattle.ibft_build.proofs.PlaceLaws.{size-kept, size-gone, size-lies}
 use Rattle.ibft_build.proofs.PatchLaws.{write-then, write-all}
 
 -- entry n takes w
-module _ (r s : List ℕ) (sound : Sound r s) (n : ℕ) (h : n < 13) (w : ℕ) (takes : w ≡ sizeGiven r s n) (t : List ℕ) (at : ℕ) where
+module _ (r s : List ℕ) (sound : Readable r s) (n : ℕ) (h : n < 13) (w : ℕ) (takes : w ≡ sizeGiven r s n) (t : List ℕ) (at : ℕ) where
   pub entry-put : 0 < w → (start : ℕ) (bytes u v : List ℕ) → start ≡ startGiven r n → bytes ≡ part s start (w - 1) → u ≡ write t at bytes
       → v ≡ write u (at + (w - 1)) (0 ∷ []) → v ≡ write t at (bytesOf (entriesGiven r s n) (stored 13 every (entriesGiven r s) n))
   unfolding bytesOf

@@ -11,6 +11,6 @@ pub mod HeaderLaws
 pub mod StructureLaws
 pub mod HeapLaws
 pub mod TableLaws
-pub mod SoundLaws
+pub mod ReadableLaws
 pub mod RefusalLaws
 pub mod BuildLaws

@@ -29,7 +29,7 @@ use Rattle.string_heap.proofs.HostLaws.{hosted, host-self, placed}
 use Rattle.ibft_table.specs.Layout.{entryCount, slotCount}
 use Rattle.build_rules.specs.RecordRange.{entryGiven, lengthGiven, startGiven, bytesGiven, contentGiven}
 use Rattle.build_rules.specs.Plan.{heapStart, offsetAs, offsetBuilt}
-use Rattle.ibft_build.specs.Planning.{Sound, entriesGiven, wantedGiven, sizeGiven, heapSizes}
+use Rattle.ibft_build.specs.Planning.{Readable, entriesGiven, wantedGiven, sizeGiven, heapSizes}
 use Rattle.ibft_build.proofs.ListLaws.{length-tabulate, getD-tabulate}
 use Rattle.ibft_build.proofs.EntryLaws.{entry-some, entry-none, Lies, lies-at}
 use Rattle.ibft_build.proofs.CoverLaws.{not-tail, stored-given, size-stored, size-none}
@@ -77,7 +77,7 @@ module _ (r s : List ℕ) (n : ℕ) where
       go true e = refl
       go false e = absurd (omega (arith, size-none r s n (stored 13 every (entriesGiven r s) n) refl e))
 
-  pub size-gone : Sound r s → n < entryCount → sizeGiven r s n ≡ 0 → stored 13 every (entriesGiven r s) n ≡ false
+  pub size-gone : Readable r s → n < entryCount → sizeGiven r s n ≡ 0 → stored 13 every (entriesGiven r s) n ≡ false
   size-gone sound h zero-size = go (stored 13 every (entriesGiven r s) n) refl
     where
       go : (b : Bool) → stored 13 every (entriesGiven r s) n ≡ b → b ≡ false
@@ -86,20 +86,20 @@ module _ (r s : List ℕ) (n : ℕ) where
       go false st = refl
 
   -- an entry that is stored, w what it takes
-  pub size-lies : Sound r s → n < entryCount → (w : ℕ) → w ≡ sizeGiven r s n → 0 < w → (start : ℕ) → start ≡ startGiven r n → Lies r s n w start
+  pub size-lies : Readable r s → n < entryCount → (w : ℕ) → w ≡ sizeGiven r s n → 0 < w → (start : ℕ) → start ≡ startGiven r n → Lies r s n w start
   size-lies sound h w e pos start at =
       let st = size-kept (omega arith) in
       let is = size-stored r s n (wantedGiven r n) refl sound h (stored 13 every (entriesGiven r s) n) refl st .0 in
       lies-at r s n sound h w start (e ∙ sym is) pos at
 
-  pub size-small : Sound r s → n < entryCount → sizeGiven r s n ≤ 256
+  pub size-small : Readable r s → n < entryCount → sizeGiven r s n ≤ 256
   size-small sound h =
       elim (decLt 0 (sizeGiven r s n)) [
         | yes pos ↦ size-lies sound h (sizeGiven r s n) refl pos (startGiven r n) refl .small
         | no l ↦ omega arith
       ]
 
-pub heap-small : (r s : List ℕ) → Sound r s → heapSize 13 every (entriesGiven r s) ≤ 3328
+pub heap-small : (r s : List ℕ) → Readable r s → heapSize 13 every (entriesGiven r s) ≤ 3328
 unfolding heapSize sizeGiven
 heap-small r s sound =
     omega (arith, sumTo-le 13 (sizeGiven r s) (λ (j : ℕ). 256) (λ j h. size-small r s j sound h), sum-const 256 13)
@@ -111,7 +111,7 @@ and-no true y e = e
 and-no false y e = refl
 
 -- entry j takes w
-module _ (r s : List ℕ) (sound : Sound r s) (start size : ℕ) (fits : start + size ≤ length s) (j : ℕ) (h : j < entryCount) (w : ℕ) (takes : w ≡ sizeGiven r s j) where
+module _ (r s : List ℕ) (sound : Readable r s) (start size : ℕ) (fits : start + size ≤ length s) (j : ℕ) (h : j < entryCount) (w : ℕ) (takes : w ≡ sizeGiven r s j) where
   pub host-not : w ≤ size → false ≡ (stored 13 every (entriesGiven r s) j && endsWith (part s start size) (entriesGiven r s j))
   unfolding endsWith
   host-not l =
@@ -150,7 +150,7 @@ host-first r s i start size j p q h before here =
 
 -- ---- places
 
-module _ (r s : List ℕ) (sound : Sound r s) (i : ℕ) (h : i < entryCount) (given : entryGiven r i ≡ true) where
+module _ (r s : List ℕ) (sound : Readable r s) (i : ℕ) (h : i < entryCount) (given : entryGiven r i ≡ true) where
   bytes-length : length (bytesGiven r s i) ≡ lengthGiven r i
   unfolding bytesGiven
   bytes-length = part-length s (startGiven r i) (lengthGiven r i) (sound .lies i h given)
@@ -191,7 +191,7 @@ unfolding heapStart
 heap-start-small r s = omega (arith, end-built r s slotCount, end-bound r slotCount)
 
 module _ (r s : List ℕ) (i : ℕ) where
-  pub offset-on : Sound r s → i < entryCount → entryGiven r i ≡ true → (heap p : ℕ) → heap ≡ heapStart (contentGiven r s)
+  pub offset-on : Readable r s → i < entryCount → entryGiven r i ≡ true → (heap p : ℕ) → heap ≡ heapStart (contentGiven r s)
       → p ≡ place 13 every (entriesGiven r s) i (bytesGiven r s i) → (p ≤ 3328) × (heap ≤ 611) × (heap + p ≡ offsetBuilt (contentGiven r s) i)
   unfolding offsetBuilt offsetAs
   offset-on sound h given heap p eh ep =

@@ -25,7 +25,7 @@ use Rattle.ibft_table.specs.Record.{Content, bodySize, shownIf}
 use Rattle.build_rules.specs.RecordRange.{imageAt, structureGiven, entryGiven, lengthGiven, startGiven, bytesGiven, contentGiven}
 use Rattle.build_rules.specs.Plan.{startBuilt, heapStart, lengthBuilt, offsetBuilt}
 use Rattle.build_rules.specs.TableBytes.{headerBytes, startBytes, controlBytes, wordsBuilt, structureBytes, stretchAs, stretch, bareTable, tableOf}
-use Rattle.ibft_build.specs.Planning.{Sound, entriesGiven, structureEnds, entryOffsets}
+use Rattle.ibft_build.specs.Planning.{Readable, entriesGiven, structureEnds, entryOffsets}
 use Rattle.ibft_build.specs.Writing.{headerStart, headerWith, startWord, controlWith, lengthWord, wordsWith, structureWith, stretchWith}
 use Rattle.ibft_build.proofs.ListLaws.{getD-tabulate}
 use Rattle.ibft_build.proofs.EntryLaws.{entry-some, entry-none}
@@ -49,7 +49,7 @@ module _ (r s : List ℕ) where
       ap (λ (l : List ℕ). startBytes control 0 ++ (byte r 14 ∷ (le16 0 ++ l)))
       (gather-same (startWord r) (λ (k : ℕ). le16 (startBuilt (contentGiven r s) k)) 0 slotCount (λ k l h. ap (λ (n : ℕ). le16 n) (sym (start-built r s k))))
 
-  module _ (sound : Sound r s) (offsets : List ℕ) (stand : offsets ≡ entryOffsets r s) where
+  module _ (sound : Readable r s) (offsets : List ℕ) (stand : offsets ≡ entryOffsets r s) where
     length-built : (n : ℕ) → n < entryCount → lengthWord r n ≡ len (entriesGiven r s n)
     unfolding len bytesGiven
     length-built n h = go (entryGiven r n) refl
@@ -112,7 +112,7 @@ front-is r t xs ys size whole fits ex ey =
 
 -- ---- the whole
 
-module _ (r s : List ℕ) (sound : Sound r s) (ends offsets : List ℕ) (are : ends ≡ structureEnds r) (stand : offsets ≡ entryOffsets r s) where
+module _ (r s : List ℕ) (sound : Readable r s) (ends offsets : List ℕ) (are : ends ≡ structureEnds r) (stand : offsets ≡ entryOffsets r s) where
   front : List ℕ
   front = headerWith r (lengthBuilt (contentGiven r s)) ++ controlWith r
 

@@ -17,7 +17,7 @@ use Rattle.ibft_build.specs.declared.plan.Plan.{Plan}
 
 -- what the plan takes for granted, since the refusals come first: the range is whole, and each present entry lies in the strings
 -- range and is not too long
-pub record Sound (r s : List ℕ) : Type 0 where
+pub record Readable (r s : List ℕ) : Type 0 where
   pub whole : length r ≡ rangeSize
   pub lies : (n : ℕ) → n < entryCount → entryGiven r n ≡ true → startGiven r n + lengthGiven r n ≤ length s
   pub short : (n : ℕ) → n < entryCount → entryGiven r n ≡ true → lengthGiven r n ≤ 255

@@ -15,7 +15,7 @@ ghost use Rattle.string_heap.specs.Stored.{every, stored};
 ghost use Rattle.string_heap.specs.Places.{endsWith, host, place};
 ghost use Rattle.build_rules.specs.RecordRange.{entryGiven, bytesGiven, contentGiven};
 ghost use Rattle.build_rules.specs.Plan.{heapStart, offsetBuilt};
-ghost use Rattle.ibft_build.specs.Planning.{Sound, entriesGiven, heapSizes, entryOffsets};
+ghost use Rattle.ibft_build.specs.Planning.{Readable, entriesGiven, heapSizes, entryOffsets};
 
 // What the entries below k take in the heap.
 pub(crate) fn sum_below(sizes: &[u16], k: u8) -> u32
@@ -33,7 +33,7 @@ pub(crate) fn sum_below(sizes: &[u16], k: u8) -> u32
 
 // Is entry j stored, and does it end with the `size` bytes from `start` on?
 fn is_host(range: &[u8], strings: &[u8], sizes: &[u16], start: usize, size: usize, j: u8) -> bool
-    requires { ⌜ Sound (now range) (now strings) × (now sizes ≡ heapSizes (now range) (now strings)) × (start + size ≤ length (now strings)) × (j < 13) ⌝ }
+    requires { ⌜ Readable (now range) (now strings) × (now sizes ≡ heapSizes (now range) (now strings)) × (start + size ≤ length (now strings)) × (j < 13) ⌝ }
     ensures { λ r. ⌜ r ≡ (stored 13 every (entriesGiven (now (range .entry)) (now (strings .entry))) j && endsWith (part (now (strings .entry)) start size) (entriesGiven (now (range .entry)) (now (strings .entry)) j)) ⌝ }
 {
     let other = sizes[j as usize] as usize;
@@ -51,7 +51,7 @@ fn is_host(range: &[u8], strings: &[u8], sizes: &[u16], start: usize, size: usiz
 
 // The host of entry i, which is present.
 fn host_of(range: &[u8], strings: &[u8], sizes: &[u16], i: u8) -> u8
-    requires { ⌜ Sound (now range) (now strings) × (now sizes ≡ heapSizes (now range) (now strings)) × (i < 13) × (entryGiven (now range) i ≡ true) ⌝ }
+    requires { ⌜ Readable (now range) (now strings) × (now sizes ≡ heapSizes (now range) (now strings)) × (i < 13) × (entryGiven (now range) i ≡ true) ⌝ }
     ensures { λ r. ⌜ r ≡ host 13 every (entriesGiven (now (range .entry)) (now (strings .entry))) i (bytesGiven (now (range .entry)) (now (strings .entry)) i) ⌝ }
 {
     let start = entry_start(range, i) as usize;
@@ -68,7 +68,7 @@ fn host_of(range: &[u8], strings: &[u8], sizes: &[u16], i: u8) -> u8
 
 // Where entry i, which is present, stands, counted from the heap's start. (A stored entry is its own host.)
 fn place_of(range: &[u8], strings: &[u8], sizes: &[u16], i: u8) -> u32
-    requires { ⌜ Sound (now range) (now strings) × (now sizes ≡ heapSizes (now range) (now strings)) × (i < 13) × (entryGiven (now range) i ≡ true) ⌝ }
+    requires { ⌜ Readable (now range) (now strings) × (now sizes ≡ heapSizes (now range) (now strings)) × (i < 13) × (entryGiven (now range) i ≡ true) ⌝ }
     ensures { λ r. ⌜ r ≡ place 13 every (entriesGiven (now (range .entry)) (now (strings .entry))) i (bytesGiven (now (range .entry)) (now (strings .entry)) i) ⌝ }
 {
     if sizes[i as usize] != 0 {
@@ -81,7 +81,7 @@ fn place_of(range: &[u8], strings: &[u8], sizes: &[u16], i: u8) -> u32
 
 // The offset of entry i in a table whose heap starts at `heap`; 0 where it is missing.
 fn entry_offset(range: &[u8], strings: &[u8], sizes: &[u16], heap: u16, i: u8) -> u16
-    requires { ⌜ Sound (now range) (now strings) × (now sizes ≡ heapSizes (now range) (now strings)) × (heap ≡ heapStart (contentGiven (now range) (now strings))) × (i < 13) ⌝ }
+    requires { ⌜ Readable (now range) (now strings) × (now sizes ≡ heapSizes (now range) (now strings)) × (heap ≡ heapStart (contentGiven (now range) (now strings))) × (i < 13) ⌝ }
     ensures { λ r. ⌜ r ≡ offsetBuilt (contentGiven (now (range .entry)) (now (strings .entry))) i ⌝ }
 {
     if entry_given(range, i) {
@@ -97,7 +97,7 @@ pub(crate) fn entry_offsets(
     sizes: &[u16],
     heap: u16,
 ) -> [u16; ENTRY_COUNT as usize]
-    requires { ⌜ Sound (now range) (now strings) × (now sizes ≡ heapSizes (now range) (now strings)) × (heap ≡ heapStart (contentGiven (now range) (now strings))) ⌝ }
+    requires { ⌜ Readable (now range) (now strings) × (now sizes ≡ heapSizes (now range) (now strings)) × (heap ≡ heapStart (contentGiven (now range) (now strings))) ⌝ }
     ensures { λ r. ⌜ r ≡ entryOffsets (now (range .entry)) (now (strings .entry)) ⌝ }
 {
     let mut offsets = [0u16; ENTRY_COUNT as usize];

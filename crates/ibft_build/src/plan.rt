@@ -6,7 +6,7 @@ use crate::stored::heap_sizes;
 use ibft_table::layout::ENTRY_COUNT;
 use ibft_table::layout::SLOT_COUNT;
 ghost use mathlib.Core.Path.{_≡_};
-ghost use Rattle.ibft_build.specs.Planning.{Sound, planOf};
+ghost use Rattle.ibft_build.specs.Planning.{Readable, planOf};
 
 // Where the first j structures of the build's order end, for each j (the last is the heap's start); what each entry takes in
 // the heap, and its offset; the table's Length.
@@ -18,7 +18,7 @@ pub(crate) struct Plan {
 }
 
 pub(crate) fn plan_of(range: &[u8], strings: &[u8]) -> Plan
-    requires { ⌜ Sound (now range) (now strings) ⌝ }
+    requires { ⌜ Readable (now range) (now strings) ⌝ }
     ensures { λ r. ⌜ r ≡ planOf (now (range .entry)) (now (strings .entry)) ⌝ }
 {
     let ends = structure_ends(range);

@@ -11,7 +11,7 @@ ghost use lib.ListN.{length};
 ghost use Rattle.octets.specs.Counting.{any};
 ghost use Rattle.octets.specs.Octets.{part};
 ghost use Rattle.string_heap.specs.Stored.{every, coveredBy, stored};
-ghost use Rattle.ibft_build.specs.Planning.{Sound, entriesGiven, wantedGiven, wantedSizes, sizeGiven, heapSizes};
+ghost use Rattle.ibft_build.specs.Planning.{Readable, entriesGiven, wantedGiven, wantedSizes, sizeGiven, heapSizes};
 
 // What entry n takes in the heap where it is stored, its bytes and one zero; 0 where it is missing.
 fn wanted_size(range: &[u8], n: u8) -> u32
@@ -46,7 +46,7 @@ fn is_covered_by(
     size: usize,
     j: u8,
 ) -> bool
-    requires { ⌜ Sound (now range) (now strings) × (now wanted ≡ wantedSizes (now range)) × (start + size ≤ length (now strings)) × (j < 13) ⌝ }
+    requires { ⌜ Readable (now range) (now strings) × (now wanted ≡ wantedSizes (now range)) × (start + size ≤ length (now strings)) × (j < 13) ⌝ }
     ensures { λ r. ⌜ r ≡ coveredBy every i (part (now (strings .entry)) start size) j (entriesGiven (now (range .entry)) (now (strings .entry)) j) ⌝ }
 {
     let other = wanted[j as usize] as usize;
@@ -76,7 +76,7 @@ fn is_covered(
     start: usize,
     size: usize,
 ) -> bool
-    requires { ⌜ Sound (now range) (now strings) × (now wanted ≡ wantedSizes (now range)) × (start + size ≤ length (now strings)) ⌝ }
+    requires { ⌜ Readable (now range) (now strings) × (now wanted ≡ wantedSizes (now range)) × (start + size ≤ length (now strings)) ⌝ }
     ensures { λ r. ⌜ r ≡ any 13 (λ (j : ℕ). coveredBy every i (part (now (strings .entry)) start size) j (entriesGiven (now (range .entry)) (now (strings .entry)) j)) ⌝ }
 {
     let mut j: u8 = 0;
@@ -91,7 +91,7 @@ fn is_covered(
 
 // Is entry i stored?
 fn is_stored(range: &[u8], strings: &[u8], wanted: &[u32], i: u8) -> bool
-    requires { ⌜ Sound (now range) (now strings) × (now wanted ≡ wantedSizes (now range)) × (i < 13) ⌝ }
+    requires { ⌜ Readable (now range) (now strings) × (now wanted ≡ wantedSizes (now range)) × (i < 13) ⌝ }
     ensures { λ r. ⌜ r ≡ stored 13 every (entriesGiven (now (range .entry)) (now (strings .entry))) i ⌝ }
 {
     let size = wanted[i as usize] as usize;
@@ -110,7 +110,7 @@ fn is_stored(range: &[u8], strings: &[u8], wanted: &[u32], i: u8) -> bool
 
 // What entry i takes in the heap.
 fn heap_size(range: &[u8], strings: &[u8], wanted: &[u32], i: u8) -> u16
-    requires { ⌜ Sound (now range) (now strings) × (now wanted ≡ wantedSizes (now range)) × (i < 13) ⌝ }
+    requires { ⌜ Readable (now range) (now strings) × (now wanted ≡ wantedSizes (now range)) × (i < 13) ⌝ }
     ensures { λ r. ⌜ r ≡ sizeGiven (now (range .entry)) (now (strings .entry)) i ⌝ }
 {
     if is_stored(range, strings, wanted, i) {
@@ -121,7 +121,7 @@ fn heap_size(range: &[u8], strings: &[u8], wanted: &[u32], i: u8) -> u16
 
 // What each entry takes in the heap: 0 of one that is not stored.
 pub(crate) fn heap_sizes(range: &[u8], strings: &[u8]) -> [u16; ENTRY_COUNT as usize]
-    requires { ⌜ Sound (now range) (now strings) ⌝ }
+    requires { ⌜ Readable (now range) (now strings) ⌝ }
     ensures { λ r. ⌜ r ≡ heapSizes (now (range .entry)) (now (strings .entry)) ⌝ }
 {
     let wanted = wanted_sizes(range);

@@ -10,11 +10,11 @@ ghost use lib.ListN.{length};
 ghost use Rattle.octets.specs.Octets.{write};
 ghost use Rattle.string_heap.specs.Stored.{every, stored, heapSize};
 ghost use Rattle.string_heap.specs.Places.{bytesOf, heapTo};
-ghost use Rattle.ibft_build.specs.Planning.{Sound, entriesGiven, heapSizes};
+ghost use Rattle.ibft_build.specs.Planning.{Readable, entriesGiven, heapSizes};
 
 // Writes entry n with its zero, where it is stored.
 fn put_entry(heap: &mut [u8], at: usize, range: &[u8], strings: &[u8], sizes: &[u16], n: u8)
-    requires { ⌜ (at ≤ 1000000) × Sound (now range) (now strings) × (now sizes ≡ heapSizes (now range) (now strings)) × (n < 13) ⌝ }
+    requires { ⌜ (at ≤ 1000000) × Readable (now range) (now strings) × (now sizes ≡ heapSizes (now range) (now strings)) × (n < 13) ⌝ }
     ensures { λ _. ⌜ now (heap .exit) ≡ write (now (heap .entry)) at (bytesOf (entriesGiven (now (range .entry)) (now (strings .entry)) n) (stored 13 every (entriesGiven (now (range .entry)) (now (strings .entry))) n)) ⌝ }
 {
     let size = sizes[n as usize] as usize;
@@ -27,7 +27,7 @@ fn put_entry(heap: &mut [u8], at: usize, range: &[u8], strings: &[u8], sizes: &[
 
 // Writes the heap into its own stretch.
 pub(crate) fn put_heap(heap: &mut [u8], range: &[u8], strings: &[u8], sizes: &[u16])
-    requires { ⌜ Sound (now range) (now strings) × (now sizes ≡ heapSizes (now range) (now strings)) × (length (now heap) ≡ heapSize 13 every (entriesGiven (now range) (now strings))) ⌝ }
+    requires { ⌜ Readable (now range) (now strings) × (now sizes ≡ heapSizes (now range) (now strings)) × (length (now heap) ≡ heapSize 13 every (entriesGiven (now range) (now strings))) ⌝ }
     ensures { λ _. ⌜ now (heap .exit) ≡ heapTo 13 every (entriesGiven (now (range .entry)) (now (strings .entry))) 13 ⌝ }
 {
     let mut at: usize = 0;

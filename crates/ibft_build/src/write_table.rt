@@ -15,7 +15,7 @@ ghost use Rattle.octets.specs.Octets.{checksum, write};
 ghost use Rattle.build_rules.specs.RecordRange.{contentGiven};
 ghost use Rattle.build_rules.specs.Plan.{lengthBuilt};
 ghost use Rattle.build_rules.specs.TableBytes.{bareTable, tableOf};
-ghost use Rattle.ibft_build.specs.Planning.{Sound, structureEnds, planOf};
+ghost use Rattle.ibft_build.specs.Planning.{Readable, structureEnds, planOf};
 ghost use Rattle.ibft_build.specs.Writing.{headerWith, controlWith};
 
 // Where the checksum stands.
@@ -32,7 +32,7 @@ fn put_front(room: &mut [u8], range: &[u8], ends: &[u16], size: u32)
 
 // Writes all but the checksum.
 fn put_bare(room: &mut [u8], range: &[u8], strings: &[u8], plan: Plan)
-    requires { ⌜ Sound (now range) (now strings) × (plan ≡ planOf (now range) (now strings)) × (lengthBuilt (contentGiven (now range) (now strings)) ≤ length (now room)) ⌝ }
+    requires { ⌜ Readable (now range) (now strings) × (plan ≡ planOf (now range) (now strings)) × (lengthBuilt (contentGiven (now range) (now strings)) ≤ length (now room)) ⌝ }
     ensures { λ _. ⌜ now (room .exit) ≡ write (now (room .entry)) 0 (bareTable (contentGiven (now (range .entry)) (now (strings .entry)))) ⌝ }
 {
     let ends = plan.ends;
@@ -56,7 +56,7 @@ fn put_checksum(room: &mut [u8], size: usize)
 
 // Writes the table of a plan that the room has space for. Room past Length keeps its bytes.
 pub(crate) fn put_table(room: &mut [u8], range: &[u8], strings: &[u8], plan: Plan)
-    requires { ⌜ Sound (now range) (now strings) × (plan ≡ planOf (now range) (now strings)) × (lengthBuilt (contentGiven (now range) (now strings)) ≤ length (now room)) ⌝ }
+    requires { ⌜ Readable (now range) (now strings) × (plan ≡ planOf (now range) (now strings)) × (lengthBuilt (contentGiven (now range) (now strings)) ≤ length (now room)) ⌝ }
     ensures { λ _. ⌜ now (room .exit) ≡ tableOf (contentGiven (now (range .entry)) (now (strings .entry))) ++ drop (lengthBuilt (contentGiven (now (range .entry)) (now (strings .entry)))) (now (room .entry)) ⌝ }
 {
     let size = plan.length as usize;

@@ -20,6 +20,7 @@ use Rattle.octets.specs.Octets.{byte, part, allZero, sum, checksum}
 use Rattle.octets.proofs.SumLaws.{checksum-stands}
 use Rattle.ibft_table.specs.Layout.{controlEnd, slotCount}
 use Rattle.ibft_table.specs.Table.{present, endOf, endBelow, heapOf}
+use Rattle.ibft_table.specs.Verdict.{refusalOf}
 use Rattle.ibft_table.specs.Check.{padded, checkTests, checkOf}
 use Rattle.ibft_table.specs.Promises.{Check}
 use Rattle.ibft_table.specs.declared.verdict.Verdict.{Verdict}
@@ -73,4 +74,9 @@ sum-stands t u n c b whole sealed stands small =
 pub check-promise : (t : List ℕ) (v : Verdict) → v ≡ checkOf t → Check t v
 unfolding checkOf
 check-promise t v e =
-    record { verdict-is = e; accepted = rw e (none-fails (checkTests t)); refused = λ r. rw e (first-fails (checkTests t) r) }
+    record {
+      verdict-is = e;
+      returns = ap refusalOf e;
+      accepted = rw e (none-fails (checkTests t));
+      refused = λ r. rw e (first-fails (checkTests t) r);
+    }

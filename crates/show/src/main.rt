@@ -1,6 +1,7 @@
-// The bench program: reads a table, up to 4,096 bytes of standard input, and prints whether it is sound and what it says, or
+// The bench program: reads a table, up to 4,096 bytes of standard input, and prints what it says where the check accepts it, or
 // the one refusal that applies. Numbers are decimal.
 use ibft_table::check::check;
+use ibft_table::control::Control;
 use ibft_table::entry::read_entry;
 use ibft_table::header::read_header;
 use ibft_table::login::LoginOrder;
@@ -93,7 +94,7 @@ fn show_order(order: LoginOrder) {
 
 fn show_mode(t: &[u8]) {
     let reading = read_header(t);
-    if reading.header.flags % 2 == 1 {
+    if reading.header.flags & Control::SINGLE_LOGIN != 0 {
         print(b"control single\n");
     } else {
         print(b"control multi\n");

@@ -8,14 +8,14 @@ use Rattle.build_rules.specs.RecordRange.{contentGiven}
 use Rattle.build_rules.specs.Plan.{lengthBuilt}
 use Rattle.ibft_build.specs.Planning.{planOf}
 use Rattle.ibft_build.specs.declared.plan.Plan.{Plan}
-use Rattle.ibft_build.proofs.SoundLaws.{accepted-sound}
+use Rattle.ibft_build.proofs.ReadableLaws.{accepted-readable}
 use Rattle.ibft_build.proofs.BuildLaws.{ends-want, ends-built}
 use borrow.Author.Needs.{needs}
 use Rattle.ibft_build.proofs.build.build_contents.Statement.{statement}
 use Rattle.ibft_build.proofs.build.build_contents.Tie as tie
 
 plan-of-requires : tie.Need-plan-of-requires
-plan-of-requires c κs = accepted-sound _ _ (c .before .before .before .pre)
+plan-of-requires c κs = accepted-readable _ _ (c .before .before .before .pre)
 
 returns : tie.Need-returns
 unfolding planOf
@@ -31,7 +31,7 @@ put-table-requires c κs =
     let a = c .before .before .before .before .before .before .args in
     let size : c .before .before .plan-of .result .length ≡ lengthBuilt (contentGiven (a .range .now) (a .strings .now)) =
     ap (λ (p : Plan). p .length) (c .before .before .plan-of .ensures) in
-    (accepted-sound _ _ (c .before .before .before .before .before .before .pre), c .before .before .plan-of .ensures, omega arith)
+    (accepted-readable _ _ (c .before .before .before .before .before .before .pre), c .before .before .plan-of .ensures, omega arith)
 
 returns-2 : tie.Need-returns-2
 unfolding planOf

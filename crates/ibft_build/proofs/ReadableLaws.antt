@@ -1,6 +1,6 @@
 -- Contents that are not refused are sound: the range is whole, and each present entry lies in the strings range and is not too
 -- long. This is what the plan and the writers take for granted.
---     accepted-sound     contents not refused are sound
+--     accepted-readable     contents not refused are sound
 -- Assumes nothing.
 use mathlib.Core.Path.{_≡_, refl, ap, _∙_}
 use mathlib.Core.Bool.{Bool, true, false, cond}
@@ -19,7 +19,7 @@ use Rattle.ibft_table.specs.declared.verdict.Verdict.the-variants.{Accepted, Re
 use Rattle.build_rules.specs.Computing.{computing}
 use Rattle.build_rules.specs.RecordRange.{rangeSize, entryGiven, lengthGiven, startGiven}
 use Rattle.build_rules.specs.Refusals.{rangeTests, imageTests, stringTests, contentsTests, contentsVerdict}
-use Rattle.ibft_build.specs.Planning.{Sound}
+use Rattle.ibft_build.specs.Planning.{Readable}
 
 -- ---- what an accepted list of tests says
 
@@ -74,14 +74,14 @@ module _ (r s : List ℕ) (accepted : contentsVerdict r s ≡ Accepted) where
       (behind (rangeTests r) (gather (imageTests r) 0 slotCount ++ gather (stringTests r s) 0 entryCount) accepted) in
       rw (zero-add n) at (each (stringTests r s) entryCount 0 n strings h)
 
-  entry-sound : (n : ℕ) → n < entryCount → entryGiven r n ≡ true → (startGiven r n + lengthGiven r n ≤ length s) × (lengthGiven r n ≤ 255)
+  entry-readable : (n : ℕ) → n < entryCount → entryGiven r n ≡ true → (startGiven r n + lengthGiven r n ≤ length s) × (lengthGiven r n ≤ 255)
   unfolding stringTests
-  entry-sound n h on =
+  entry-readable n h on =
       let lies = passes _ _ (rw on at (entry-tests n h)) in
       let short = passes _ _ (lies .1) in (
         ltb-false (length s) (startGiven r n + lengthGiven r n) (lies .0),
         omega (arith, ltb-false ((stringOf n) .longest) (lengthGiven r n) (short .0), longest-small n h),
       )
 
-  pub accepted-sound : Sound r s
-  accepted-sound = record { whole = whole; lies = λ n h on. entry-sound n h on .0; short = λ n h on. entry-sound n h on .1 }
+  pub accepted-readable : Readable r s
+  accepted-readable = record { whole = whole; lies = λ n h on. entry-readable n h on .0; short = λ n h on. entry-readable n h on .1 }
