@@ -1,0 +1,257 @@
+/*
+ * A boot program that has no C library, no heap and 4 KiB of stack. It finds the
+ * iBFT in low memory, or builds one from a record of its own; checks it; and
+ * takes from it what a login to the first target needs.
+ */
+#include "boot.h"
+
+/* From start.c: there is no string.h here. */
+void *memset(void *to, int byte, size_t size);
+void *memcpy(void *restrict to, const void *restrict from, size_t size);
+
+/* ---- What is built where memory has no table ------------------------------- */
+
+/* The strings, as one range of bytes. Each has a zero byte behind it only
+ * because that is how C writes strings: the build does not want one. The host
+ * name is the tail of the initiator's name: in the table they share bytes. */
+static const struct strings {
+    char initiator_name[sizeof "iqn.2026-11.example:crane7"];
+    char host_name[sizeof "crane7"];
+    char target_name[sizeof "iqn.2026-11.example:depot1"];
+    char chap_name[sizeof "depot7"];
+    char chap_secret[sizeof "secret-of-12"];
+} strings = {
+    .initiator_name = "iqn.2026-11.example:crane7",
+    .host_name = "crane7",
+    .target_name = "iqn.2026-11.example:depot1",
+    .chap_name = "depot7",
+    .chap_secret = "secret-of-12",
+};
+
+/* The words of a string in a record: its length and its start in the range. */
+#define STRING(field) \
+    { .length = sizeof strings.field - 1, .offset = offsetof(struct strings, field) }
+
+#define IPV4(a, b, c, d) { 0, 0, 0, 0, 0, 0, 0, 0, 0, 0, 0xFF, 0xFF, a, b, c, d }
+
+/* An initiator, NIC 0 and Target 0; entries 0 to 4 are the strings above. What
+ * is not named is zero: absent, missing, or not looked at. */
+static const struct ibft_record record = {
+    .oem_id = "DEPOT",
+    .oem_table_id = "EXAMPLE",
+    .slot_present = { 1, 1, 1 },
+    .entry_present = { 1, 1, 1, 1, 1 },
+    .initiator = {
+        .header = { .flags = IBFT_INITIATOR_VALID | IBFT_INITIATOR_SELECTED },
+        .name = STRING(initiator_name),
+    },
+    .nic0 = {
+        .header = { .flags = IBFT_NIC_VALID | IBFT_NIC_SELECTED },
+        .ip_address = IPV4(10, 0, 2, 15),
+        .subnet_mask_prefix = 24,
+        .gateway = IPV4(10, 0, 2, 2),
+        .mac_address = { 0x52, 0x54, 0x00, 0x12, 0x34, 0x56 },
+        .pci_bus_dev_func = 0 * 256 + 3 * 8 + 0,
+        .host_name = STRING(host_name),
+    },
+    .target0 = {
+        .header = { .flags = IBFT_TARGET_VALID | IBFT_TARGET_SELECTED },
+        .ip_address = IPV4(10, 0, 2, 2),
+        .ip_socket = 3260,
+        .chap_type = 1,
+        .nic_association = 0,
+        .name = STRING(target_name),
+        .chap_name = STRING(chap_name),
+        .chap_secret = STRING(chap_secret),
+    },
+};
+
+/* ---- Finding, building and checking ---------------------------------------- */
+
+/* Conventional memory ends here: 640 KiB. */
+enum { CONVENTIONAL_END = 0xA0000 };
+
+static uint8_t *bytes_at(const struct boot_machine *machine, uint64_t address)
+{
+    return machine->memory + (address - machine->memory_address);
+}
+
+/* Keeps what the library said, beside the status. */
+static enum boot_status refused(struct boot_report *report, uint64_t answer,
+                                enum boot_status status)
+{
+    report->number = ibft_answer_number(answer);
+    report->place = ibft_answer_place(answer);
+    return status;
+}
+
+static enum boot_status find_table(struct boot_machine *machine)
+{
+    struct boot_report *report = &machine->report;
+    uint64_t answer =
+        ibft_scan(machine->memory, machine->memory_size, machine->memory_address);
+
+    if (ibft_answer_number(answer) == IBFT_REFUSED_NO_TABLE)
+        return BOOT_NO_TABLE;
+    if (ibft_answer_number(answer) != IBFT_ACCEPTED)
+        return refused(report, answer, BOOT_MEMORY_REFUSED);
+    report->table_address = ibft_answer_address(answer);
+    report->table_length = ibft_answer_length(answer);
+    return BOOT_READY;
+}
+
+/* Whether the room is part of the memory, and a table in it can be found: from
+ * 512 to 640 KiB, at a multiple of 16. No sum here can pass 2^64. */
+static bool room_is_usable(const struct boot_machine *machine)
+{
+    uint64_t room = machine->room_address, memory = machine->memory_address;
+
+    return room % 16 == 0
+        && room >= IBFT_WINDOW_START && room <= CONVENTIONAL_END
+        && machine->room_size <= CONVENTIONAL_END - room
+        && room >= memory && room - memory <= machine->memory_size
+        && machine->room_size <= machine->memory_size - (room - memory);
+}
+
+/* Builds the table of the record above and scans for it. A damaged table below
+ * the room may reach into it, and its bytes may sum to 0 now that some of them
+ * were written: then a scan finds that place first. */
+static enum boot_status build_table(struct boot_machine *machine)
+{
+    struct boot_report *report = &machine->report;
+    enum boot_status status;
+    uint64_t answer;
+
+    if (!room_is_usable(machine))
+        return BOOT_ROOM_REFUSED;
+    answer = ibft_build((const uint8_t *)&record, sizeof record,
+                        (const uint8_t *)&strings, sizeof strings,
+                        bytes_at(machine, machine->room_address), machine->room_size);
+    if (ibft_answer_number(answer) != IBFT_ACCEPTED)
+        return refused(report, answer, BOOT_BUILD_REFUSED);
+    report->built = true;
+    status = find_table(machine);
+    if (status == BOOT_READY && report->table_address != machine->room_address)
+        return BOOT_BUILT_NOT_LOWEST;
+    return status;
+}
+
+static enum boot_status check_table(struct boot_machine *machine)
+{
+    struct boot_report *report = &machine->report;
+    uint64_t answer =
+        ibft_check(bytes_at(machine, report->table_address), report->table_length);
+
+    if (ibft_answer_number(answer) != IBFT_ACCEPTED)
+        return refused(report, answer, BOOT_TABLE_REFUSED);
+    return BOOT_READY;
+}
+
+/* ---- Reading a table that the check accepted -------------------------------- */
+
+/* Offsets in a table: Control's flags, and the words that say where the
+ * structures start, two bytes for each slot. */
+enum { CONTROL_FLAGS = 53, CONTROL_WORDS = 56 };
+
+enum { INITIATOR_SLOT = 0, TARGET_0_SLOT = 2, TARGET_1_SLOT = 4 };
+
+/* Where the structure of a slot starts; 0 if it is absent. */
+static uint16_t start_of(const uint8_t *table, unsigned slot)
+{
+    const uint8_t *word = table + CONTROL_WORDS + 2 * slot;
+
+    return (uint16_t)(word[0] | word[1] << 8);
+}
+
+/* Whether the structure at this start is there with all of these flags. */
+static bool has_flags(const uint8_t *table, uint16_t start, uint8_t flags)
+{
+    size_t at = start + offsetof(struct ibft_structure_header, flags);
+
+    return start != 0 && (table[at] & flags) == flags;
+}
+
+/* Where the lowest target with all of these flags starts; 0 if none has them. */
+static uint16_t target_with(const uint8_t *table, uint8_t flags)
+{
+    for (unsigned slot = TARGET_0_SLOT; slot <= TARGET_1_SLOT; slot += 2)
+        if (has_flags(table, start_of(table, slot), flags))
+            return start_of(table, slot);
+    return 0;
+}
+
+/* The target to log in to first: the lowest that is valid; where Control asks
+ * for a single login, the selected one if it is valid. */
+static uint16_t first_target(const uint8_t *table)
+{
+    uint16_t start = 0;
+
+    if (table[CONTROL_FLAGS] & IBFT_CONTROL_SINGLE_LOGIN)
+        start = target_with(table, IBFT_TARGET_VALID | IBFT_TARGET_SELECTED);
+    return start != 0 ? start : target_with(table, IBFT_TARGET_VALID);
+}
+
+/* An accepted table has no string with a length and no offset. */
+static struct boot_text text_of(const uint8_t *table, struct ibft_entry entry)
+{
+    struct boot_text missing = { NULL, 0 };
+    struct boot_text text = { table + entry.offset, entry.length };
+
+    return entry.offset == 0 ? missing : text;
+}
+
+static void take_target(const uint8_t *table, uint16_t start, struct boot_login *login)
+{
+    struct ibft_target target;
+
+    memcpy(&target, table + start, sizeof target);
+    login->target = target.header.index;
+    login->nic = target.nic_association;
+    memcpy(login->ip_address, target.ip_address, sizeof login->ip_address);
+    login->port = target.ip_socket;
+    memcpy(login->lun, table + start + offsetof(struct ibft_target, boot_lun), sizeof login->lun);
+    login->chap_type = target.chap_type;
+    login->target_name = text_of(table, target.name);
+    login->chap_name = text_of(table, target.chap_name);
+    login->chap_secret = text_of(table, target.chap_secret);
+    login->reverse_chap_name = text_of(table, target.reverse_chap_name);
+    login->reverse_chap_secret = text_of(table, target.reverse_chap_secret);
+}
+
+static void take_initiator(const uint8_t *table, struct boot_login *login)
+{
+    uint16_t start = start_of(table, INITIATOR_SLOT);
+    struct ibft_initiator initiator;
+
+    if (!has_flags(table, start, IBFT_INITIATOR_VALID))
+        return;
+    memcpy(&initiator, table + start, sizeof initiator);
+    login->initiator_name = text_of(table, initiator.name);
+}
+
+static enum boot_status take_login(const uint8_t *table, struct boot_login *login)
+{
+    uint16_t start = first_target(table);
+
+    if (start == 0)
+        return BOOT_NO_TARGET;
+    take_target(table, start, login);
+    take_initiator(table, login);
+    if (login->target_name.length == 0 || login->initiator_name.length == 0)
+        return BOOT_NO_NAME;
+    return BOOT_READY;
+}
+
+void boot(struct boot_machine *machine)
+{
+    struct boot_report *report = &machine->report;
+
+    memset(report, 0, sizeof *report);
+    report->status = find_table(machine);
+    if (report->status == BOOT_NO_TABLE && machine->room_size != 0)
+        report->status = build_table(machine);
+    if (report->status == BOOT_READY)
+        report->status = check_table(machine);
+    if (report->status == BOOT_READY)
+        report->status = take_login(bytes_at(machine, report->table_address), &report->login);
+}

@@ -1,0 +1,385 @@
+/*
+ * A machine to try the boot program on: 640 KiB of low memory, with what
+ * firmware before it left there. Runs the program, prints what it reports and
+ * looks at memory and stack afterwards; exits 1 where anything is not as
+ * expected.
+ *
+ *   firmware SAMPLES      SAMPLES is the folder of the sample tables
+ */
+#include "boot.h"
+
+#include <stdio.h>
+#include <stdlib.h>
+#include <string.h>
+
+enum {
+    MEMORY_SIZE = 640 * 1024,
+    TABLE = 0x90000,   /* where the sample tables are put */
+    DAMAGED = 0x9EF00, /* a damaged table below the room */
+    ROOM = 0x9F000,    /* the last 4 KiB below 640 KiB */
+    ROOM_SIZE = 4096,  /* the longest table that is ever built takes 3,702 */
+    BUILT_LENGTH = 384 /* the table of the boot program's record */
+};
+
+/* Offsets in every table. */
+enum { LENGTH = 4, CHECKSUM = 9, CONTROL_FLAGS = 53 };
+
+/* Offsets in the sample tables that are changed here: iPXE's. */
+enum { TARGET_0 = 384, TARGET_0_FLAGS = TARGET_0 + 5, TARGET_0_CHAP_TYPE = TARGET_0 + 32 };
+
+/* Memory and stack hold these before a run. */
+enum { MEMORY_BYTE = 0xA5, PAINT = 0x5A };
+
+enum { STACK_LIMIT = 1024 };
+
+static const char *samples;
+static const char *title;
+static uint8_t memory[MEMORY_SIZE];
+static uint8_t memory_before[MEMORY_SIZE];
+static size_t stack_used;
+
+static void expect(bool holds, const char *what)
+{
+    if (!holds) {
+        printf("wrong in \"%s\": %s\n", title, what);
+        exit(1);
+    }
+}
+
+/* ---- What firmware before the boot program left in memory ------------------- */
+
+static void load(const char *sample, size_t address)
+{
+    char path[4096];
+    FILE *file;
+
+    snprintf(path, sizeof path, "%s/%s", samples, sample);
+    file = fopen(path, "rb");
+    expect(file != NULL, path);
+    expect(fread(memory + address, 1, MEMORY_SIZE - address, file) > 0, path);
+    fclose(file);
+}
+
+/* Makes the bytes of a table sum to 0. */
+static void mend_sum(uint8_t *table)
+{
+    size_t length = (size_t)(table[LENGTH] | table[LENGTH + 1] << 8);
+    uint8_t sum = 0;
+
+    for (size_t i = 0; i < length; i++)
+        sum = (uint8_t)(sum + table[i]);
+    table[CHECKSUM] = (uint8_t)(table[CHECKSUM] - sum);
+}
+
+static void leave_nothing(void)
+{
+}
+
+static void leave_dump(void)
+{
+    load("low-memory-0x9f000.bin", 0x9F000);
+}
+
+static void leave_mutual_chap(void)
+{
+    load("ipxe-mutual-chap.ibft", TABLE);
+}
+
+static void leave_second_selected(void)
+{
+    load("ipxe-two-targets.ibft", TABLE);
+    memory[TABLE + TARGET_0_FLAGS] = IBFT_TARGET_VALID;
+    mend_sum(memory + TABLE);
+}
+
+static void leave_single_login(void)
+{
+    leave_second_selected();
+    memory[TABLE + CONTROL_FLAGS] = IBFT_CONTROL_SINGLE_LOGIN;
+    mend_sum(memory + TABLE);
+}
+
+static void leave_chap_type_3(void)
+{
+    leave_mutual_chap();
+    memory[TABLE + TARGET_0_CHAP_TYPE] = 3;
+    mend_sum(memory + TABLE);
+}
+
+static void leave_wrong_sum(void)
+{
+    leave_mutual_chap();
+    memory[TABLE + CHECKSUM]++;
+}
+
+static void leave_invalid_target(void)
+{
+    leave_mutual_chap();
+    memory[TABLE + TARGET_0_FLAGS] = 0;
+    mend_sum(memory + TABLE);
+}
+
+static void leave_no_names(void)
+{
+    load("case-5.ibft", TABLE);
+}
+
+/* A table below the room that reaches to the end of memory: its bytes sum to 0
+ * once a table of BUILT_LENGTH bytes, which sum to 0, stands in the room. */
+static void leave_damage_below_room(void)
+{
+    uint8_t *table = memory + DAMAGED;
+    uint32_t length = MEMORY_SIZE - DAMAGED;
+
+    memcpy(table, "iBFT", 4);
+    memcpy(table + LENGTH, &length, sizeof length);
+    memset(memory + ROOM, 0, BUILT_LENGTH);
+    mend_sum(table);
+    memory[ROOM] = 1;
+}
+
+/* ---- What is tried ----------------------------------------------------------- */
+
+struct boot_case {
+    const char *title;
+    void (*leave)(void);
+    uint64_t memory_address;
+    size_t memory_size;
+    uint64_t room_address;
+    size_t room_size;
+    const char *target_name;     /* NULL where there is no login */
+    struct boot_report expected; /* of the login: target and NIC */
+};
+
+/* All memory is lent, from address 0 on, and the whole room. */
+#define ALL 0, MEMORY_SIZE, ROOM, ROOM_SIZE
+
+#define FOUND(at, bytes) .table_address = (at), .table_length = (bytes)
+#define REFUSED(by, at) .number = (by), .place = (at)
+
+static const char depot1[] = "iqn.2026-11.example:depot1";
+static const char depot2[] = "iqn.2026-11.example:depot2";
+
+static const struct boot_case cases[] = {
+    { "a table, below it a damaged copy and a stray signature", leave_dump, ALL, depot1,
+      { .status = BOOT_READY, FOUND(0x9F830, 597) } },
+    { "a table with mutual CHAP", leave_mutual_chap, ALL, depot1,
+      { .status = BOOT_READY, FOUND(TABLE, 611) } },
+    { "two targets, the second selected", leave_second_selected, ALL, depot1,
+      { .status = BOOT_READY, FOUND(TABLE, 607) } },
+    { "two targets, the second selected, a single login", leave_single_login, ALL, depot2,
+      { .status = BOOT_READY, FOUND(TABLE, 607), .login = { .target = 1, .nic = 1 } } },
+    { "no table", leave_nothing, ALL, depot1,
+      { .status = BOOT_READY, .built = true, FOUND(ROOM, BUILT_LENGTH) } },
+    { "a table with a wrong sum, room just large enough", leave_wrong_sum,
+      0, MEMORY_SIZE, ROOM, BUILT_LENGTH, depot1,
+      { .status = BOOT_READY, .built = true, FOUND(ROOM, BUILT_LENGTH) } },
+    { "a table with CHAP type 3", leave_chap_type_3, ALL, NULL,
+      { .status = BOOT_TABLE_REFUSED, FOUND(TABLE, 611),
+        REFUSED(IBFT_REFUSED_CHAP_TYPE, TARGET_0_CHAP_TYPE) } },
+    { "a table whose target is not valid", leave_invalid_target, ALL, NULL,
+      { .status = BOOT_NO_TARGET, FOUND(TABLE, 611) } },
+    { "a table without names", leave_no_names, ALL, NULL,
+      { .status = BOOT_NO_NAME, FOUND(TABLE, 133) } },
+    { "memory past 0x100000", leave_dump, 0x60001, MEMORY_SIZE, ROOM, ROOM_SIZE, NULL,
+      { .status = BOOT_MEMORY_REFUSED, REFUSED(IBFT_REFUSED_PAST_WINDOW, 0) } },
+    { "no table, no room", leave_nothing, 0, MEMORY_SIZE, 0, 0, NULL,
+      { .status = BOOT_NO_TABLE } },
+    { "no table, room one byte too small", leave_nothing,
+      0, MEMORY_SIZE, ROOM, BUILT_LENGTH - 1, NULL,
+      { .status = BOOT_BUILD_REFUSED, REFUSED(IBFT_REFUSED_ROOM, 0) } },
+    { "no table, room at no multiple of 16", leave_nothing,
+      0, MEMORY_SIZE, ROOM + 8, BUILT_LENGTH, NULL, { .status = BOOT_ROOM_REFUSED } },
+    { "no table, room below 512 KiB", leave_nothing,
+      0, MEMORY_SIZE, IBFT_WINDOW_START - 16, ROOM_SIZE, NULL, { .status = BOOT_ROOM_REFUSED } },
+    { "no table, room past 640 KiB", leave_nothing,
+      0x10000, MEMORY_SIZE, ROOM + 16, ROOM_SIZE, NULL, { .status = BOOT_ROOM_REFUSED } },
+    { "no table, room that ends past the memory", leave_nothing,
+      0, ROOM + 16, ROOM, ROOM_SIZE, NULL, { .status = BOOT_ROOM_REFUSED } },
+    { "no table, room that starts past the memory", leave_nothing,
+      0, TABLE, ROOM, ROOM_SIZE, NULL, { .status = BOOT_ROOM_REFUSED } },
+    { "no table, room below the memory", leave_nothing,
+      ROOM, ROOM_SIZE, TABLE, BUILT_LENGTH, NULL, { .status = BOOT_ROOM_REFUSED } },
+    { "a damaged table that reaches into the room", leave_damage_below_room, ALL, NULL,
+      { .status = BOOT_BUILT_NOT_LOWEST, .built = true, FOUND(DAMAGED, MEMORY_SIZE - DAMAGED) } },
+};
+
+/* ---- What the boot program reports ------------------------------------------- */
+
+static const char *const status_words[] = {
+    [BOOT_READY] = "ready to log in",
+    [BOOT_MEMORY_REFUSED] = "the scan refuses the memory",
+    [BOOT_NO_TABLE] = "there is no table",
+    [BOOT_ROOM_REFUSED] = "the room is no place for a table",
+    [BOOT_BUILD_REFUSED] = "the build refuses the record or the room",
+    [BOOT_BUILT_NOT_LOWEST] = "a scan finds another table before the one built",
+    [BOOT_TABLE_REFUSED] = "the check refuses the table",
+    [BOOT_NO_TARGET] = "no target is valid",
+    [BOOT_NO_NAME] = "the initiator or the target has no name",
+};
+
+static void print_text(const char *what, struct boot_text text)
+{
+    if (text.bytes != NULL)
+        printf("  %s %.*s\n", what, (int)text.length, (const char *)text.bytes);
+}
+
+/* A secret is not shown. */
+static void print_secret(const char *what, struct boot_text text)
+{
+    if (text.bytes != NULL)
+        printf("  %s of %u bytes\n", what, (unsigned)text.length);
+}
+
+static void print_address(const uint8_t *address)
+{
+    static const uint8_t ipv4[12] = { [10] = 0xFF, [11] = 0xFF };
+
+    if (memcmp(address, ipv4, sizeof ipv4) == 0) {
+        printf("%u.%u.%u.%u", address[12], address[13], address[14], address[15]);
+        return;
+    }
+    for (size_t i = 0; i < 16; i += 2)
+        printf("%s%x", i == 0 ? "" : ":", (unsigned)(address[i] << 8 | address[i + 1]));
+}
+
+static void print_login(const struct boot_login *login)
+{
+    print_text("initiator", login->initiator_name);
+    printf("  target %u, by NIC %u, at ", login->target, login->nic);
+    print_address(login->ip_address);
+    printf(" port %u, LUN", login->port);
+    for (size_t i = 0; i < sizeof login->lun; i++)
+        printf(" %02x", login->lun[i]);
+    printf("\n");
+    print_text("target's name", login->target_name);
+    printf("  CHAP type %u\n", login->chap_type);
+    print_text("CHAP name", login->chap_name);
+    print_secret("CHAP secret", login->chap_secret);
+    print_text("reverse CHAP name", login->reverse_chap_name);
+    print_secret("reverse CHAP secret", login->reverse_chap_secret);
+}
+
+static void print_report(const struct boot_report *report)
+{
+    printf("%s\n", title);
+    if (report->built)
+        printf("  a table was built\n");
+    if (report->table_length != 0)
+        printf("  table at 0x%x, %u bytes\n", (unsigned)report->table_address,
+               (unsigned)report->table_length);
+    if (report->number != 0)
+        printf("  refused %u %u\n", report->number, (unsigned)report->place);
+    printf("  status %u: %s\n", (unsigned)report->status, status_words[report->status]);
+    if (report->status == BOOT_READY)
+        print_login(&report->login);
+}
+
+/* ---- Running it and looking -------------------------------------------------- */
+
+static bool guard_is_whole(void)
+{
+    for (size_t i = 0; i < sizeof boot_stack.guard; i++)
+        if (boot_stack.guard[i] != PAINT)
+            return false;
+    return true;
+}
+
+/* Runs a program on the painted stack; how much of the stack was written. */
+static size_t run_painted(void (*program)(struct boot_machine *), struct boot_machine *machine)
+{
+    size_t unused = 0;
+
+    memset(&boot_stack, PAINT, sizeof boot_stack);
+    boot_on_stack(program, machine);
+    while (unused < sizeof boot_stack.bytes && boot_stack.bytes[unused] == PAINT)
+        unused++;
+    return sizeof boot_stack.bytes - unused;
+}
+
+static void expect_report(const struct boot_report *report, const struct boot_case *tried)
+{
+    const struct boot_report *expected = &tried->expected;
+    struct boot_text name = report->login.target_name;
+
+    expect(report->status == expected->status, "the status");
+    expect(report->number == expected->number, "the number of a refusal");
+    expect(report->place == expected->place, "the place of a refusal");
+    expect(report->built == expected->built, "whether a table was built");
+    expect(report->table_address == expected->table_address, "the table's address");
+    expect(report->table_length == expected->table_length, "the table's Length");
+    if (tried->target_name != NULL) {
+        expect(report->login.target == expected->login.target, "the target's Index");
+        expect(report->login.nic == expected->login.nic, "the NIC's Index");
+        expect(report->login.port == 3260, "the port");
+        expect(name.length == strlen(tried->target_name), "the length of the target's name");
+        expect(memcmp(name.bytes, tried->target_name, name.length + 1u) == 0, "the target's name");
+    }
+}
+
+/* All memory is as it was, but for the table that was built. */
+static void expect_memory(bool built)
+{
+    if (built)
+        memcpy(memory_before + ROOM, memory + ROOM, BUILT_LENGTH);
+    expect(memcmp(memory, memory_before, MEMORY_SIZE) == 0, "memory outside the table");
+}
+
+static void run_case(const struct boot_case *tried)
+{
+    struct boot_machine machine = {
+        .memory = memory,
+        .memory_size = tried->memory_size,
+        .memory_address = tried->memory_address,
+        .room_address = tried->room_address,
+        .room_size = tried->room_size,
+    };
+    size_t used;
+
+    title = tried->title;
+    memset(memory, MEMORY_BYTE, MEMORY_SIZE);
+    tried->leave();
+    memcpy(memory_before, memory, MEMORY_SIZE);
+    used = run_painted(boot, &machine);
+    stack_used = used > stack_used ? used : stack_used;
+    print_report(&machine.report);
+    expect(guard_is_whole(), "the guard below the stack");
+    expect_report(&machine.report, tried);
+    expect_memory(tried->expected.built);
+}
+
+/* Writes more bytes than the stack has. */
+__attribute__((noinline, no_sanitize("address"))) static void overrun(struct boot_machine *machine)
+{
+    volatile uint8_t deep[BOOT_STACK_SIZE];
+
+    (void)machine;
+    for (size_t i = 0; i < sizeof deep; i++)
+        deep[i] = 0;
+}
+
+static void show_stack(void)
+{
+    title = "stack";
+    expect(stack_used > 0 && stack_used < STACK_LIMIT, "how much of the stack was used");
+    printf("stack: less than %u of %u bytes used\n", (unsigned)STACK_LIMIT,
+           (unsigned)BOOT_STACK_SIZE);
+    fprintf(stderr, "stack: %zu bytes used, as this compiler has it\n", stack_used);
+    run_painted(overrun, NULL);
+    expect(!guard_is_whole(), "a program that writes too many bytes is not seen");
+    printf("stack: a program that uses more than %u is seen\n", (unsigned)BOOT_STACK_SIZE);
+}
+
+int main(int count, char **words)
+{
+    if (count != 2) {
+        fprintf(stderr, "usage: firmware SAMPLES\n");
+        return 2;
+    }
+    samples = words[1];
+    for (size_t i = 0; i < sizeof cases / sizeof cases[0]; i++)
+        run_case(&cases[i]);
+    show_stack();
+    printf("all as expected\n");
+    return 0;
+}
