@@ -67,11 +67,13 @@ pub(crate) fn entry_given(range: &[u8], n: u8) -> bool
     false
 }
 
-// Where the range holds entry n's length; its start in the strings range stands 2 further.
+// Where the range holds entry n's length; its start in the strings range stands 2 further. (LLVM makes tables of both parts
+// when the string comes first; the other way round it makes jumps.)
 fn field_at(n: u8) -> u32
     ensures { λ r. ⌜ r ≡ imageAt (ownerOf n) + (stringOf n) .at ⌝ }
 {
-    image_at(owner_of(n)) as u32 + string_of(n).at as u32
+    let at = string_of(n).at;
+    image_at(owner_of(n)) as u32 + at as u32
 }
 
 // Entry n's length.

@@ -15,18 +15,17 @@ ghost use Rattle.ibft_table.specs.Layout.{entryCount};
 ghost use Rattle.ibft_table.specs.Verdict.{firstOf};
 ghost use Rattle.build_rules.specs.Refusals.{hasZero, stringTests};
 
-// Does a zero byte stand among the bytes?
+// Does a zero byte stand among the bytes? All of them are read: a loop with no early exit is vectorised.
 fn has_zero(s: &[u8]) -> bool
     ensures { λ r. ⌜ r ≡ hasZero (now (s .entry)) ⌝ }
 {
+    let mut found = false;
     let mut i = 0;
     while i < s.len() {
-        if s[i] == 0 {
-            return true;
-        }
+        found = found | (s[i] == 0);
         i += 1;
     }
-    false
+    found
 }
 
 // Entry n, where it is present; else its two words are no part of the record. (Its end may pass 16 bits.)

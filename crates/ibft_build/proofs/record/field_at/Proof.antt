@@ -4,7 +4,7 @@ use Rattle.ibft_build.proofs.record.field_at.Statement.{statement}
 use Rattle.ibft_build.proofs.record.field_at.Tie as tie
 
 returns : tie.Need-returns
-returns c = rw (c .before .before .image-at .ensures, c .before .before .before .owner-of .ensures, c .before .string-of .ensures)
+returns c = rw (c .image-at .ensures, c .before .owner-of .ensures, c .before .before .string-of .ensures)
 
 pub field-at-spec : {M : Type 1} → statement M
 field-at-spec = tie.close (tie.spec (search needs) (search needs) (search needs) (search needs) (search needs) (search needs) returns)
