@@ -1,0 +1,4 @@
+pub mod PutLaws
+pub mod SplitLaws
+pub mod WordsLaws
+pub mod WordSetLaws
