@@ -1,115 +1,117 @@
-// Finds the iBFT in a memory dump: `find ADDRESS`, with the dump on standard input. ADDRESS is where the dump's first byte
-// stood, in decimal or, behind 0x, in hexadecimal. Prints `table` with the table's address and Length, or `refused` with the
-// number of the refusal and its place, which is 0.
+// Finds the iBFT in a memory dump, which stands on standard input: `find ADDRESS`, with the address of the dump's first byte, in
+// decimal or behind 0x in hexadecimal. Prints `table` with the table's address and Length, or `refused` with the number of the
+// refusal and its place, which is 0. `find ADDRESS bytes` writes the table's bytes instead, and a refusal to standard error.
+use notation::number::Number;
+use notation::number::read_number;
+use octets::read::part;
 use scan::Family;
 use scan::Scanned;
+use scan::scan_for;
+use scan::table_for;
+use text::split::same;
+ghost use mathlib.Core.Path.{_≡_};
+ghost use Prim.Native.Nat.{min};
 
-enum Digit {
-    Value(u8),
-    Bad,
-}
+const STDIN: i32 = 0;
 
-enum Number {
-    Value(u64),
-    Bad,
-}
+const STDOUT: i32 = 1;
 
-fn digit_value(b: u8) -> Digit {
-    if b'0' <= b && b <= b'9' {
-        return Digit::Value(b - b'0');
-    }
-    if b'a' <= b && b <= b'f' {
-        return Digit::Value(b - b'a' + 10);
-    }
-    if b'A' <= b && b <= b'F' {
-        return Digit::Value(b - b'A' + 10);
-    }
-    Digit::Bad
-}
-
-// The number with one digit more, where it still fits.
-fn with_digit(n: u64, base: u8, b: u8) -> Number {
-    let Digit::Value(d) = digit_value(b) else {
-        return Number::Bad;
-    };
-    if base <= d {
-        return Number::Bad;
-    }
-    if n > 0x0FFFFFFFFFFFFFFF {
-        return Number::Bad;
-    }
-    if base == 16 {
-        return Number::Value(n * 16 + d as u64);
-    }
-    if n > 0x0CCCCCCCCCCCCCCC {
-        return Number::Bad;
-    }
-    Number::Value(n * 10 + d as u64)
-}
-
-// The number that the digits from `at` on are, at least one of them.
-fn number_from(text: &[u8], at: usize, base: u8) -> Number {
-    if text.len() <= at {
-        return Number::Bad;
-    }
-    let mut n: u64 = 0;
-    let mut i = at;
-    while i < text.len() {
-        let Number::Value(more) = with_digit(n, base, text[i]) else {
-            return Number::Bad;
-        };
-        n = more;
-        i += 1;
-    }
-    Number::Value(n)
-}
-
-fn number_of(text: &[u8]) -> Number {
-    if octets::read::byte_at(text, 0) == b'0' && octets::read::byte_at(text, 1) == b'x' {
-        return number_from(text, 2, 16);
-    }
-    number_from(text, 0, 10)
-}
-
-fn print_scanned(s: Scanned) {
-    if s.number == 0 {
-        io::write_all(1, b"table 0x");
-        io::print_hex(1, s.address, 1);
-        io::write_all(1, b" ");
-        io::print_decimal(1, s.length as u64);
-    } else {
-        io::write_all(1, b"refused ");
-        io::print_decimal(1, s.number as u64);
-        io::write_all(1, b" 0");
-    }
-    io::write_all(1, b"\n");
-}
+const STDERR: i32 = 2;
 
 // Where the window starts: no table stands below.
 const WINDOW_START: u64 = 0x80000;
 
-// The dump's bytes are read into room for the whole window, and one byte that tells a longer dump.
-fn find(address: u64) {
-    let mut dump = [0u8; 524289];
-    let n = io::read_full(0, &mut dump);
-    if address < WINDOW_START && 524288 < n {
-        io::write_all(
-            2,
-            b"find: the dump is too long; leave out what stood below 0x80000\n",
-        );
+fn print_refusal(fd: i32, s: Scanned) {
+    io::write_all(fd, b"refused ");
+    io::print_decimal(fd, s.number as u64);
+    io::write_all(fd, b" 0\n");
+}
+
+fn print_found(s: Scanned) {
+    io::write_all(STDOUT, b"table 0x");
+    io::print_hex(STDOUT, s.address, 1);
+    io::write_all(STDOUT, b" ");
+    io::print_decimal(STDOUT, s.length as u64);
+    io::write_all(STDOUT, b"\n");
+}
+
+// What the scan finds in the memory that starts at the address: said in a line, or its bytes.
+fn answer(memory: &[u8], address: u64, bytes: bool) {
+    let scanned = scan_for(Family::IBFT, memory, address);
+    if scanned.number != 0 {
+        print_refusal(if bytes { STDERR } else { STDOUT }, scanned);
         return;
     }
-    print_scanned(scan::scan_for(Family::IBFT, octets::read::part(&dump, 0, n), address));
+    if bytes {
+        io::write_all(STDOUT, table_for(Family::IBFT, memory, address));
+    } else {
+        print_found(scanned);
+    }
+}
+
+// How many of the bytes left are read at a time.
+fn chunk_of(left: u64) -> usize
+    ensures { λ r. ⌜ r ≡ min left 4096 ⌝ }
+{
+    if left < 4096 { left as usize } else { 4096 }
+}
+
+// Reads n bytes of the dump, at most 4,096, and leaves them; false where it ends before.
+fn skip_chunk(n: usize) -> bool {
+    let mut chunk = io::buffer();
+    if 4096 < n {
+        return false;
+    }
+    n <= io::read_full(STDIN, &mut chunk[..n])
+}
+
+// Reads n bytes of the dump and leaves them; false where it ends before.
+fn skip(n: u64) -> bool {
+    let mut left = n;
+    while 0 < left {
+        let size = chunk_of(left);
+        if !skip_chunk(size) {
+            return false;
+        }
+        left -= size as u64;
+    }
+    true
+}
+
+// Looks through the dump from the window's start on, with room for the whole window and one byte that tells a longer dump.
+fn find_from(address: u64, bytes: bool) {
+    let mut memory = [0u8; 524289];
+    let n = io::read_full(STDIN, &mut memory);
+    answer(part(&memory, 0, n), address, bytes);
+}
+
+// What stood below the window is not kept: a dump of all memory from 0 on is looked through as well.
+fn find(address: u64, bytes: bool) {
+    if WINDOW_START <= address {
+        find_from(address, bytes);
+        return;
+    }
+    if skip(WINDOW_START - address) {
+        find_from(WINDOW_START, bytes);
+    } else {
+        answer(b"", WINDOW_START, bytes);
+    }
+}
+
+fn wants_bytes() -> bool {
+    let mut text = [0u8; 32];
+    let n = os::arg(2, &mut text);
+    same(part(&text, 0, n), b"bytes")
 }
 
 fn main() {
     let mut text = [0u8; 32];
     let n = os::arg(1, &mut text);
-    match number_of(octets::read::part(&text, 0, n)) {
-        Number::Value(address) => find(address),
+    match read_number(0xFFFFFFFFFFFFFFFF, part(&text, 0, n)) {
+        Number::Value(address) => find(address, wants_bytes()),
         Number::Bad => {
             io::write_all(
-                2,
+                STDERR,
                 b"find: give the address of the dump's first byte, as 0x9f000\n",
             );
         }
