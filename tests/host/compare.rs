@@ -1,10 +1,10 @@
-//! Compares what the static libraries and the program `show` answer with independent readings of
-//! document 01, on seeded inputs. Prints how often each answer was met; exits 1 at the first
-//! difference.
+//! Compares what the static libraries and the programs `show`, `tell` and `enter` answer with
+//! independent readings of document 01 and docs/RECORD-FORMAT.md, on seeded inputs. Prints how often
+//! each answer was met; exits 1 at the first difference.
 //!
-//! The readings are the files model_*.rs, written from the document alone; a call that is exported
-//! later gets its reading and its comparison beside these. The environment variable SHOW names the
-//! program.
+//! The readings are the files model_*.rs, written from the documents alone; a call that is exported
+//! later gets its reading and its comparison beside these. The environment variables SHOW, TELL and
+//! ENTER name the programs.
 
 mod build_refusals;
 mod build_sights;
@@ -17,9 +17,13 @@ mod compare_login;
 mod compare_readings;
 mod compare_scan;
 mod compare_show;
+mod compare_text;
+mod field_maker;
 mod good_records;
 mod good_tables;
 mod known_builds;
+mod known_texts;
+mod known_values;
 mod lent_build;
 mod lent_memory;
 mod lent_table;
@@ -28,24 +32,32 @@ mod model_answer;
 mod model_build;
 mod model_check;
 mod model_checksum;
+mod model_enter_tell;
 mod model_host_name;
 mod model_layout;
 mod model_login;
+mod model_notation;
 mod model_readings;
 mod model_record;
 mod model_record_range;
 mod model_scan;
 mod model_show;
+mod model_text;
 mod record_damage;
 mod record_maker;
 mod record_shapes;
 mod refusals;
+mod running;
 mod samples;
 mod seeded;
 mod table_damage;
 mod table_maker;
 mod table_shapes;
 mod tally;
+mod text_damage;
+mod text_maker;
+mod text_shapes;
+mod text_sights;
 
 fn main() {
     let all_agree = compare_scan::compare()
@@ -55,6 +67,7 @@ fn main() {
         && compare_readings::compare()
         && compare_login::compare()
         && compare_show::compare()
+        && compare_text::compare()
         && compare_build::compare()
         && compare_least::compare();
     if !all_agree {

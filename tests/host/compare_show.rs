@@ -4,79 +4,35 @@
 use crate::model_check::check;
 use crate::model_show::{show, INPUT_LIMIT};
 use crate::refusals::Refusals;
+use crate::running::{fed, program, run, Fed};
 use crate::samples::SAMPLES;
 use crate::table_maker::{case_5, structures, with_texts, Table};
 use crate::table_shapes::some_of_each;
 use crate::tally::Tally;
 use std::ffi::OsString;
-use std::io::{ErrorKind, Write};
-use std::process::{ChildStdin, Command, Stdio};
-use std::time::Duration;
 
 const LEAST_INPUTS: usize = 300;
 const OF_EACH_SHAPE: usize = 12;
 
-/// How an input reaches the program: whole, or in pieces with a pause between.
-const WHOLE: usize = usize::MAX;
-const PAUSE: Duration = Duration::from_millis(3);
-
-/// One input of the program: a name, the bytes, and the size of the pieces they come in.
-#[derive(Clone)]
-struct Fed {
-    name: &'static str,
-    bytes: Vec<u8>,
-    piece: usize,
-}
-
-fn fed(name: &'static str, bytes: Vec<u8>) -> Fed {
-    Fed {
-        name,
-        bytes,
-        piece: WHOLE,
-    }
-}
-
 // ---- Running the program ----
 
-/// A program that has read enough may close its input before all is written.
-fn feed(mut stdin: ChildStdin, input: &Fed) -> std::io::Result<()> {
-    for piece in input
-        .bytes
-        .chunks(input.piece.min(input.bytes.len().max(1)))
-    {
-        match stdin.write_all(piece) {
-            Err(error) if error.kind() == ErrorKind::BrokenPipe => return Ok(()),
-            other => other?,
+/// What the program prints. Nothing may go to standard error.
+fn printed(program: &OsString, input: &Fed) -> String {
+    match run(program, input) {
+        Ok(output) if output.stderr.is_empty() => {
+            String::from_utf8_lossy(&output.stdout).into_owned()
         }
-        if input.piece != WHOLE {
-            std::thread::sleep(PAUSE);
+        Ok(output) => {
+            let said = String::from_utf8_lossy(&output.stderr);
+            format!("{}, standard error: {}", output.status, said)
         }
+        Err(error) => error,
     }
-    Ok(())
-}
-
-/// What the program prints. Nothing may go to standard error, and no signal may end it.
-fn printed(program: &OsString, input: &Fed) -> std::io::Result<String> {
-    let mut child = Command::new(program)
-        .stdin(Stdio::piped())
-        .stdout(Stdio::piped())
-        .stderr(Stdio::piped())
-        .spawn()?;
-    feed(child.stdin.take().unwrap(), input)?;
-    let output = child.wait_with_output()?;
-    if output.status.code().is_none() || !output.stderr.is_empty() {
-        let said = String::from_utf8_lossy(&output.stderr).into_owned();
-        return Ok(format!("{}, standard error: {}", output.status, said));
-    }
-    Ok(String::from_utf8_lossy(&output.stdout).into_owned())
 }
 
 fn compare_one(program: &OsString, input: &Fed, counts: &mut (Tally, Refusals)) -> bool {
     let expected = show(&input.bytes);
-    let answer = match printed(program, input) {
-        Ok(answer) => answer,
-        Err(error) => format!("cannot run {:?}: {}", program, error),
-    };
+    let answer = printed(program, input);
     if answer != expected {
         println!(
             "show: DIFFERENCE in '{}', {} bytes",
@@ -232,12 +188,9 @@ fn shapes() -> Vec<Fed> {
 }
 
 pub fn compare() -> bool {
-    let program = match std::env::var_os("SHOW") {
+    let program = match program("SHOW") {
         Some(program) => program,
-        None => {
-            println!("show: SHOW does not say where the program is");
-            return false;
-        }
+        None => return false,
     };
     if !stored_outputs_hold() || !example_holds() {
         return false;

@@ -1,9 +1,10 @@
-//! The tables of samples/, and what `show` prints for each.
+//! The tables of samples/, and what `show` and `tell` print for each.
 
 pub struct Sample {
     pub name: &'static str,
     pub table: &'static [u8],
     pub shown: &'static str,
+    pub told: &'static str,
 }
 
 macro_rules! sample {
@@ -12,6 +13,7 @@ macro_rules! sample {
             name: $name,
             table: include_bytes!(concat!("../../samples/", $name, ".ibft")),
             shown: include_str!(concat!("../../samples/", $name, ".txt")),
+            told: include_str!(concat!("../../samples/", $name, ".record")),
         }
     };
 }

@@ -1,0 +1,5 @@
+pub mod FieldsLaws
+pub mod ValueLaws
+pub mod WidthLaws
+pub mod EnterLaws
+pub mod TellLaws

@@ -1,0 +1,22 @@
+-- `put_oem` meets its contract: the string before the first zero. Assumes nothing.
+use mathlib.Core.Path.{sym, ap}
+use mathlib.Core.List.{List}
+use Prim.Native.Nat.{ℕ}
+use lib.ListN.{take}
+use lib.Seq.{length-take-le}
+use Rattle.notation.specs.Escape.{stringText}
+use Rattle.text.proofs.PutLaws.{puts-same}
+use borrow.Author.Needs.{needs}
+use Rattle.record_text.proofs.value_text.put_oem.Statement.{statement}
+use Rattle.record_text.proofs.value_text.put_oem.Tie as tie
+
+lent : tie.Need-slice-aggregate-put-string-text
+lent c = sym (length-take-le _ _ (c .before .before .index-of .ensures .1))
+
+returns : tie.Need-returns
+returns c =
+    let bytes = c .before .before .before .before .before .before .before .before .args .bytes .now in
+    puts-same (c .before .before .put-string-text .ensures) (ap (λ (n : ℕ). stringText (take n bytes)) (c .before .before .before .before .before .index-of .ensures .0))
+
+pub put-oem-spec : {M : Type 1} → statement M
+put-oem-spec = tie.close (tie.spec (search needs) lent (search needs) (search needs) returns)

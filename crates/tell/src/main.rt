@@ -1,0 +1,49 @@
+// Tells what a table holds: reads a table, up to 4,096 bytes of standard input, and writes its record as text (docs/RECORD-FORMAT.md), or the one
+// refusal that applies.
+use ibft_table::check::check;
+use ibft_table::verdict::Verdict;
+use octets::read::part;
+use record_text::tell::put_line;
+
+const STDIN: i32 = 0;
+
+const STDOUT: i32 = 1;
+
+// Field numbers are below this: 16 for each of the seven groups.
+const FIELD_NUMBERS: u8 = 112;
+
+fn print(text: &[u8]) {
+    io::write_all(STDOUT, text);
+}
+
+fn print_refusal(number: u8, place: u32) {
+    print(b"refused ");
+    io::print_decimal(STDOUT, number as u64);
+    print(b" ");
+    io::print_decimal(STDOUT, place as u64);
+    print(b"\n");
+}
+
+// The line of a field. (The longest is that of a string of 255 bytes, each written with four: there is room for it.)
+fn tell_field(t: &[u8], field: u8) {
+    let mut room = [0u8; 2048];
+    let end = put_line(&mut room, t, field);
+    print(part(&room, 0, end));
+}
+
+// The fields in their order. (Of the numbers that are no field nothing is told.)
+fn tell(t: &[u8]) {
+    for field in 0..FIELD_NUMBERS {
+        tell_field(t, field);
+    }
+}
+
+fn main() {
+    let mut input = io::buffer();
+    let n = io::read_full(STDIN, &mut input);
+    let t = part(&input, 0, n);
+    match check(t) {
+        Verdict::Accepted => tell(t),
+        Verdict::Refused(refusal) => print_refusal(refusal.number, refusal.place),
+    }
+}

@@ -1,0 +1,466 @@
+//! Whole texts with the answers that docs/RECORD-FORMAT.md gives them, written out by hand.
+
+use crate::model_check::Refusal;
+use crate::model_enter_tell::{enter, tell, Entered};
+use crate::model_readings::{self as readings, EntryWords};
+use crate::model_text::{ALL_STRINGS, LONGEST_TEXT};
+
+/// The document's example.
+pub const EXAMPLE: &str = include_str!("../../samples/cabinet7.record");
+
+/// What `enter` answers: a table that is told so, a message, or a refusal and its place.
+#[derive(Clone, Debug)]
+pub enum Answer {
+    Told(String),
+    Unread(String),
+    Refused(u64, u64),
+}
+
+use Answer::*;
+
+pub struct Known {
+    pub text: Vec<u8>,
+    pub answer: Answer,
+}
+
+fn known(text: impl AsRef<[u8]>, answer: Answer) -> Known {
+    Known {
+        text: text.as_ref().to_vec(),
+        answer,
+    }
+}
+
+fn told(text: impl AsRef<[u8]>, lines: &[&str]) -> Known {
+    let lines: Vec<String> = lines.iter().map(|line| format!("{}\n", line)).collect();
+    known(text, Told(lines.concat()))
+}
+
+fn unread(text: impl AsRef<[u8]>, line: usize, reason: &str) -> Known {
+    known(text, Unread(format!("enter: line {}: {}", line, reason)))
+}
+
+fn refused(text: impl AsRef<[u8]>, number: u64, place: u64) -> Known {
+    known(text, Refused(number, place))
+}
+
+const NO_FIELD: &str = "there is no such field";
+const GIVEN_BEFORE: &str = "this field was given before";
+const NO_MODE: &str = "the value is not one of: multi single";
+const NO_STRING: &str = "the value is not a string: a backslash starts \\\\ or \\xHH, \
+                         bytes below 0x20 are written \\xHH, an empty string \"\"";
+
+// ---- Lines ----
+
+/// Texts that say nothing, and one line said in many ways.
+fn blanks_and_comments() -> Vec<Known> {
+    let nothing = [
+        "",
+        "\n",
+        "\n\n\n",
+        " ",
+        "\t",
+        "\r",
+        "\r\n",
+        " \t\r\n \t\r",
+        "#",
+        "#\n",
+    ];
+    let comments = [
+        "# control single",
+        " \t# control single\n",
+        "#control\n#\0\x01\x7F \\q",
+    ];
+    let single = [
+        "control single",
+        "control single\n",
+        "control single\r\n",
+        "\n\ncontrol single\n\n",
+        "control\tsingle",
+        "control\rsingle",
+        " control single ",
+        "\t\r control \r\t  single\t\r ",
+        "# first\ncontrol single\n# last",
+        "#\r\n\r\ncontrol\t\tsingle\r\n\r\n",
+    ];
+    let mut all = vec![told(b"#\xFF\xFE\n", &["control multi"])];
+    for text in nothing.iter().chain(&comments) {
+        all.push(told(text, &["control multi"]));
+    }
+    for text in single {
+        all.push(told(text, &["control single"]));
+    }
+    all
+}
+
+/// Lines that cannot be read, and which of several is named.
+fn unread_lines() -> Vec<Known> {
+    let no_name = "the value is not made of the words: valid selected";
+    vec![
+        unread("x", 1, NO_FIELD),
+        unread("\0", 1, NO_FIELD),
+        unread("control multi\n\n# three\nx y z\n", 4, NO_FIELD),
+        unread("Control multi", 1, NO_FIELD),
+        unread("control=multi", 1, NO_FIELD),
+        unread("control: multi", 1, NO_FIELD),
+        unread("control\x0Bmulti", 1, NO_FIELD),
+        unread("\u{FEFF}control multi", 1, NO_FIELD),
+        unread("control # multi", 1, NO_MODE),
+        unread("control multi # the mode", 1, NO_MODE),
+        unread("control", 1, NO_MODE),
+        unread("control \t\r\n", 1, NO_MODE),
+        unread("flags valid", 1, NO_FIELD),
+        unread("initiator valid", 1, NO_FIELD),
+        unread("initiator. valid", 1, NO_FIELD),
+        unread("initiator0.flags valid", 1, NO_FIELD),
+        unread("initiator.mac 02:00:5e:10:00:07", 1, NO_FIELD),
+        unread("nic.mac 02:00:5e:10:00:07", 1, NO_FIELD),
+        unread("nic2.mac 02:00:5e:10:00:07", 1, NO_FIELD),
+        unread("target2.lun rubbish", 1, NO_FIELD),
+        unread("oem.id", 1, NO_STRING),
+        unread("initiator.name", 1, NO_STRING),
+        unread("initiator.flags", 1, no_name),
+        unread("control single\ncontrol single", 2, GIVEN_BEFORE),
+        unread("control single\n\ncontrol rubbish", 3, GIVEN_BEFORE),
+        unread("control single\ncontrol", 2, GIVEN_BEFORE),
+        unread("control rubbish\ncontrol multi", 1, NO_MODE),
+        unread("control single\rcontrol multi", 1, NO_MODE),
+        unread("nic0.host a\nnic1.host a\nnic0.host a", 3, GIVEN_BEFORE),
+        unread("nic0.host \"\"\ny\nx", 2, NO_FIELD),
+        unread(format!("{}x", "\n".repeat(65_535)), 65_536, NO_FIELD),
+    ]
+}
+
+// ---- Structures and fields ----
+
+/// A structure is there with its first field; what is not given has its default.
+fn presence() -> Vec<Known> {
+    let multi = "control multi";
+    let address = "nic0.dns2 0.0.0.0";
+    vec![
+        told("oem.id METTA", &["oem.id METTA", multi]),
+        told("oem.table \\x37\ncontrol multi", &["oem.table 7", multi]),
+        told("oem.id \"\"\noem.table \\x00", &[multi]),
+        told("oem.id A\\x00\\x00", &["oem.id A", multi]),
+        told("initiator.isns ::", &[multi, "initiator.flags valid"]),
+        told("initiator.flags none", &[multi, "initiator.flags none"]),
+        told("nic0.vlan 0", &[multi, "nic0.flags valid"]),
+        told("nic1.pci 00:00.0", &[multi, "nic1.flags valid"]),
+        told("nic1.host a.", &[multi, "nic1.flags valid", "nic1.host a."]),
+        told(address, &[multi, "nic0.flags valid", address]),
+    ]
+}
+
+/// A target has a port that is not zero where it is given none.
+fn targets() -> Vec<Known> {
+    let multi = "control multi";
+    let target0 = ["target0.flags valid", "target0.port 3260"];
+    let target1 = ["target1.flags valid", "target1.port 3260"];
+    let no_flags = ["target0.flags none", target0[1]];
+    let port_0 = [target1[0], "target1.port 0"];
+    let both = ["target1.name \"\"", "target0.nic 1"];
+    vec![
+        told("target0.lun 0", &[&[multi], &target0[..]].concat()),
+        told("target1.chap none", &[&[multi], &target1[..]].concat()),
+        told("target1.port 0", &[&[multi], &port_0[..]].concat()),
+        told("target0.flags none", &[&[multi], &no_flags[..]].concat()),
+        told(
+            both.join("\n"),
+            &[&[multi], &target0[..], &both[1..], &target1, &both[..1]].concat(),
+        ),
+    ]
+}
+
+/// A line for each field of each kind of structure, in the order in which they are told.
+const EVERY_FIELD: [(&str, &[&str]); 3] = [
+    (
+        "initiator",
+        &[
+            "flags selected",
+            "isns 1.2.3.4",
+            "slp ::2",
+            "radius1 ::3",
+            "radius2 ::4",
+            "name i",
+        ],
+    ),
+    (
+        "nic",
+        &[
+            "flags global",
+            "address ::1",
+            "prefix 6",
+            "origin 7",
+            "gateway ::2",
+            "dns1 ::3",
+            "dns2 ::4",
+            "dhcp ::5",
+            "vlan 8",
+            "mac 00:00:00:00:00:09",
+            "pci 01:02.3",
+            "host n",
+        ],
+    ),
+    (
+        "target",
+        &[
+            "flags radius-chap",
+            "address ::1",
+            "port 2",
+            "lun 3",
+            "chap one-way",
+            "nic 4",
+            "name tn",
+            "chap-name tc",
+            "chap-secret ts",
+            "reverse-name tr",
+            "reverse-secret \"\"",
+        ],
+    ),
+];
+
+/// The lines from last to first; telling turns them round.
+fn every_field() -> Known {
+    let of = |kind: usize, number: &str| {
+        let (name, fields) = EVERY_FIELD[kind];
+        let line = |field: &&str| format!("{}{}.{}", name, number, field);
+        fields.iter().map(line).collect::<Vec<String>>()
+    };
+    let header = ["oem.id I", "oem.table T", "control single"].map(str::to_string);
+    let all = [
+        header.to_vec(),
+        of(0, ""),
+        of(1, "0"),
+        of(2, "0"),
+        of(1, "1"),
+        of(2, "1"),
+    ];
+    let mut lines = all.concat();
+    let told = lines.iter().map(|line| format!("{}\n", line)).collect();
+    lines.reverse();
+    known(lines.join("\n"), Told(told))
+}
+
+// ---- Refused records ----
+
+fn refused_records() -> Vec<Known> {
+    let long = |field: &str, size: usize| format!("{} {}", field, "a".repeat(size));
+    let is_long = |field: &str, most: usize| {
+        let lines = ["control multi", "target0.flags valid", "target0.port 3260"];
+        let line = long(field, most);
+        told(&line, &[lines[0], lines[1], lines[2], &line])
+    };
+    vec![
+        refused("oem.id A\\x00B", 8, 10),
+        refused("oem.table \\x00B", 8, 16),
+        refused(
+            "oem.table \\x00B\noem.id \\x00B\ninitiator.name \\x00",
+            8,
+            10,
+        ),
+        is_long("target0.name", 223),
+        refused(long("target0.name", 224), 17, 2),
+        is_long("target0.chap-secret", 255),
+        refused(long("target0.chap-secret", 256), 17, 4),
+        refused(long("initiator.name", ALL_STRINGS), 17, 0),
+        refused("initiator.name \\x00", 20, 0),
+        refused("target1.reverse-secret a\\x00b", 20, 12),
+        refused("target1.name \\x00\ntarget0.name a\\x00", 20, 2),
+        refused("nic0.host \"\"", 18, 1),
+        refused("nic0.host \\x00", 20, 1),
+        refused("nic0.host a_b", 18, 1),
+        refused("nic1.host a.b.", 18, 7),
+        refused("nic1.host .\nnic0.host -", 18, 1),
+        refused(long("nic1.host", 64), 18, 7),
+        refused(long("nic1.host", 256), 17, 7),
+    ]
+}
+
+// ---- Limits ----
+
+/// The sizes of the OEM fields and of all strings together.
+fn limits_of_strings() -> Vec<Known> {
+    let six = "the string has more than 6 bytes";
+    let eight = "the string has more than 8 bytes";
+    let together = "the strings together have more than 4096 bytes";
+    let oem = ["oem.id 123456", "oem.table 12345678", "control multi"];
+    let name = |size: usize| format!("initiator.name {}\n", "a".repeat(size));
+    let escaped = |size: usize| format!("target1.name {}\n", "\\x61".repeat(size));
+    vec![
+        told(oem.join("\n"), &oem),
+        unread("oem.id 1234567", 1, six),
+        unread("oem.id A\\x00\\x00\\x00\\x00\\x00\\x00", 1, six),
+        unread("oem.id 1234567\\q", 1, NO_STRING),
+        unread("\noem.table 123456789", 2, eight),
+        refused(name(ALL_STRINGS), 17, 0),
+        unread(name(ALL_STRINGS + 1), 1, together),
+        unread(name(ALL_STRINGS) + "nic0.host a", 2, together),
+        unread(name(ALL_STRINGS) + "nic0.host \\q", 2, NO_STRING),
+        unread(name(ALL_STRINGS) + "initiator.name a", 2, GIVEN_BEFORE),
+        refused(name(ALL_STRINGS) + "nic0.host \"\"\noem.id 123456", 17, 0),
+        refused(escaped(2_000) + &name(2_096), 17, 0),
+        unread(escaped(2_001) + &name(2_096), 2, together),
+        unread(name(5_000).replace("a\n", "\\q"), 1, NO_STRING),
+    ]
+}
+
+/// Size comes before all else that is wrong.
+fn limits_of_text() -> Vec<Known> {
+    let longer = |text: String| {
+        let message = "enter: the text has more than 65536 bytes";
+        known(text, Unread(message.to_string()))
+    };
+    let filled = |text: &str, size: usize| format!("{}{}", text, "#".repeat(size - text.len()));
+    let single = "control single\n";
+    vec![
+        told(filled(single, LONGEST_TEXT), &["control single"]),
+        longer(filled(single, LONGEST_TEXT + 1)),
+        longer(filled("x\n", LONGEST_TEXT + 1)),
+        told("\n".repeat(LONGEST_TEXT), &["control multi"]),
+        longer("\n".repeat(LONGEST_TEXT + 1)),
+        longer(filled("", 1 << 20)),
+    ]
+}
+
+pub fn known_texts() -> Vec<Known> {
+    let mut all = blanks_and_comments();
+    all.extend(unread_lines());
+    all.extend(presence());
+    all.extend(targets());
+    all.push(every_field());
+    all.extend(refused_records());
+    all.extend(limits_of_strings());
+    all.extend(limits_of_text());
+    all
+}
+
+// ---- Holding the model to them ----
+
+fn is_answered_as_known(known: &Known) -> bool {
+    let entered = enter(&known.text);
+    let as_known = match (&entered, &known.answer) {
+        (Entered::Table(table), Told(text)) => tell(table) == *text,
+        (Entered::Unread(message), Unread(known)) => message == known,
+        (Entered::Refused(Refusal { number, place }), Refused(n, p)) => (number, place) == (n, p),
+        _ => false,
+    };
+    if !as_known {
+        let text = String::from_utf8_lossy(&known.text[..known.text.len().min(300)]);
+        println!("text: {:?} is not answered {:?}, but", text, known.answer);
+        match &entered {
+            Entered::Table(table) => println!("  told {:?}", tell(table)),
+            other => println!("  {:?}", other),
+        }
+    }
+    as_known
+}
+
+/// The table of a text that has one.
+fn table_of_text(text: &[u8]) -> Vec<u8> {
+    match enter(text) {
+        Entered::Table(table) => table,
+        other => panic!(
+            "{:?} is answered {:?}",
+            String::from_utf8_lossy(text),
+            other
+        ),
+    }
+}
+
+fn string<'a>(table: &'a [u8], words: &EntryWords) -> &'a [u8] {
+    let start = words.offset as usize;
+    &table[start..start + words.length as usize]
+}
+
+fn mapped(last: [u8; 4]) -> [u8; 16] {
+    let mut address = [0; 16];
+    address[10..12].fill(0xFF);
+    address[12..].copy_from_slice(&last);
+    address
+}
+
+/// `::1` and the like.
+fn small(last: u8) -> [u8; 16] {
+    let mut address = [0; 16];
+    address[15] = last;
+    address
+}
+
+/// The example's fields, by the readings of the table that it gives.
+fn assert_example() {
+    let table = table_of_text(EXAMPLE.as_bytes());
+    let header = readings::header(&table).unwrap();
+    assert_eq!(&header.oem_id, b"METTA\0");
+    assert_eq!(&header.oem_table_id, b"CABINET7");
+    assert_eq!(header.control_flags, 1);
+    let initiator = readings::initiator(&table).unwrap();
+    let name = string(&table, &initiator.name);
+    assert_eq!(initiator.flags, 3);
+    assert_eq!(name, b"iqn.2026-11.example:cabinet7");
+    assert_example_nic(&table);
+    assert_example_target(&table);
+    assert!(readings::nic(&table, 1).is_err());
+    assert!(readings::target(&table, 1).is_err());
+}
+
+fn assert_example_nic(table: &[u8]) {
+    let nic = readings::nic(table, 0).unwrap();
+    assert_eq!((nic.flags, nic.prefix, nic.origin, nic.vlan), (7, 24, 0, 0));
+    assert_eq!(nic.address, mapped([192, 168, 70, 50]));
+    assert_eq!(nic.gateway, mapped([192, 168, 70, 1]));
+    assert_eq!(nic.primary_dns[..4], [0x20, 0x01, 0x0D, 0xB8]);
+    assert_eq!(nic.primary_dns[4..], small(0x53)[4..]);
+    assert_eq!((nic.secondary_dns, nic.dhcp), ([0; 16], [0; 16]));
+    assert_eq!(nic.mac, [0x02, 0, 0x5E, 0x10, 0, 0x07]);
+    assert_eq!(nic.pci, 0x0019);
+    assert_eq!(string(table, &nic.host_name), b"cabinet7.example");
+}
+
+fn assert_example_target(table: &[u8]) {
+    let target = readings::target(table, 0).unwrap();
+    assert_eq!((target.flags, target.socket, target.lun), (3, 3260, 1));
+    assert_eq!((target.chap_type, target.nic_association), (2, 0));
+    assert_eq!(target.address, mapped([192, 168, 70, 35]));
+    let secret = string(table, &target.chap_secret);
+    assert_eq!(secret, b"a secret of \xFCber 12 bytes");
+    assert_eq!(string(table, &target.name), b"iqn.2026-11.example:depot7");
+    assert_eq!(string(table, &target.chap_name), b"depot7");
+    assert_eq!(string(table, &target.reverse_name), b"7");
+    assert_eq!(target.reverse_secret.length, 0);
+    assert_ne!(target.reverse_secret.offset, 0);
+}
+
+/// Every field stands where the readings have it.
+fn assert_every_field() {
+    let table = table_of_text(&every_field().text);
+    let initiator = readings::initiator(&table).unwrap();
+    assert_eq!(initiator.flags, 2);
+    assert_eq!(initiator.isns_server, mapped([1, 2, 3, 4]));
+    assert_eq!(initiator.slp_server, small(2));
+    assert_eq!(initiator.primary_radius_server, small(3));
+    assert_eq!(initiator.secondary_radius_server, small(4));
+    for n in 0..2 {
+        let nic = readings::nic(&table, n).unwrap();
+        let addresses = [nic.address, nic.gateway, nic.primary_dns, nic.secondary_dns];
+        assert_eq!(addresses, [small(1), small(2), small(3), small(4)]);
+        assert_eq!(nic.dhcp, small(5));
+        assert_eq!((nic.flags, nic.prefix, nic.origin, nic.vlan), (4, 6, 7, 8));
+        assert_eq!((nic.mac, nic.pci), ([0, 0, 0, 0, 0, 9], 0x0113));
+        let target = readings::target(&table, n).unwrap();
+        let numbers = [target.socket, target.lun, target.chap_type];
+        assert_eq!(target.address, small(1));
+        assert_eq!(numbers, [2, 3, 1]);
+        assert_eq!((target.flags, target.nic_association), (4, 4));
+        let names = [target.name, target.chap_name, target.chap_secret];
+        let names = names.map(|words| string(&table, &words).to_vec());
+        assert_eq!(names, [b"tn", b"tc", b"ts"]);
+        assert_eq!(string(&table, &target.reverse_name), b"tr");
+        assert_eq!(string(&table, &target.reverse_secret), b"");
+    }
+}
+
+/// Does the model answer each of these texts as the document does?
+pub fn known_texts_agree() -> bool {
+    assert_example();
+    assert_every_field();
+    known_texts().iter().all(is_answered_as_known)
+}

@@ -1,0 +1,239 @@
+//! The tables on which `tell` is compared and the texts on which `enter` is, by shape. An input is
+//! the same on every machine.
+
+use crate::field_maker::{note_record, note_strings, note_table, string_of_note};
+use crate::good_records::{good_record, whole_record};
+use crate::good_tables::{good_table, lent_table, table_with_structures};
+use crate::known_texts::{known_texts, EXAMPLE};
+use crate::known_values::{known_values, told_tables};
+use crate::model_build::least_table;
+use crate::model_layout::*;
+use crate::model_record::{record_given, Record};
+use crate::model_text::{all_fields, Field, LONGEST_TEXT};
+use crate::running::{fed, Fed};
+use crate::samples::SAMPLES;
+use crate::seeded::Seeded;
+use crate::table_maker::*;
+use crate::table_shapes::some_of_each;
+use crate::text_damage::{any_byte, any_damage};
+use crate::text_maker::{lines_of, text_of_lines, Line};
+
+/// Inputs of a shape: a name, how many, and how each is made.
+type Shape = (&'static str, usize, fn(&mut Seeded) -> Vec<u8>);
+
+fn made(shapes: &[Shape], first_seed: u64) -> Vec<Fed> {
+    let mut inputs = Vec::new();
+    for (i, (name, count, make)) in shapes.iter().enumerate() {
+        for n in 0..*count {
+            let mut seeded = Seeded::new(first_seed + ((i as u64) << 32) + n as u64);
+            inputs.push(fed(name, make(&mut seeded)));
+        }
+    }
+    inputs
+}
+
+// ---- Tables ----
+
+const TABLES: &[Shape] = &[
+    ("good tables", 500, |seeded| lent_table(seeded).bytes),
+    ("fields of note", 700, fields_of_note),
+    ("strings of note", 300, strings_of_note),
+    ("built records", 400, built_record),
+];
+
+/// How many of each shape of the check's tables, most of them refused.
+const OF_EACH_SHAPE: usize = 4;
+
+pub fn all_tables() -> Vec<Fed> {
+    let mut inputs: Vec<Fed> = SAMPLES
+        .iter()
+        .map(|sample| fed("samples", sample.table.to_vec()))
+        .collect();
+    inputs.extend(SAMPLES.iter().map(|sample| Fed {
+        name: "samples in pieces",
+        bytes: sample.table.to_vec(),
+        piece: 100,
+    }));
+    for table in [
+        structures(&[]),
+        full_table(),
+        largest_table(),
+        common_table(),
+    ] {
+        inputs.push(fed("tables known by name", table.mended().bytes));
+    }
+    for table in told_tables() {
+        inputs.push(fed("values known by name", table));
+    }
+    for length in [4_095, 4_096, 4_097, 65_536] {
+        inputs.push(fed("about 4,096 bytes", table_of_length(length)));
+    }
+    inputs.extend(made(TABLES, 0x7E11_0000_0000_0000));
+    for input in some_of_each(OF_EACH_SHAPE) {
+        inputs.push(fed(input.shape, input.table.bytes().to_vec()));
+    }
+    inputs
+}
+
+/// A good table of just that Length, with bytes behind it.
+fn table_of_length(length: usize) -> Vec<u8> {
+    let mut table = with_texts(&[4], &[(9, b"ab")]);
+    let end = table.length();
+    table.append_bytes(&vec![0x5A; length - end]);
+    table.lend_more(&[0x5A; 700]);
+    table.mended().bytes
+}
+
+fn fields_of_note(seeded: &mut Seeded) -> Vec<u8> {
+    let mut table = table_with_structures(seeded);
+    note_table(seeded, &mut table);
+    table.mended().bytes
+}
+
+fn strings_of_note(seeded: &mut Seeded) -> Vec<u8> {
+    let mut table = good_table(seeded);
+    note_strings(seeded, &mut table);
+    table.mended().bytes
+}
+
+fn built_record(seeded: &mut Seeded) -> Vec<u8> {
+    let given = good_record(seeded);
+    least_table(&given.record, given.strings()).unwrap()
+}
+
+// ---- Texts ----
+
+const TEXTS: &[Shape] = &[
+    ("records in any notation", 1_200, |seeded| {
+        any_text(seeded).1
+    }),
+    ("one fault", 1_200, |seeded| faulty(seeded, 1)),
+    ("several faults", 400, |seeded| faulty(seeded, 4)),
+    ("bytes changed", 600, bytes_changed),
+    ("the example, bytes changed", 300, example_changed),
+    ("about 65,536 bytes", 60, about_the_limit),
+    ("random bytes", 100, random_bytes),
+    ("random lines", 200, random_lines),
+];
+
+pub fn all_texts() -> Vec<Fed> {
+    let mut inputs = vec![fed("the example", EXAMPLE.as_bytes().to_vec())];
+    inputs.push(Fed {
+        name: "the example",
+        bytes: EXAMPLE.as_bytes().to_vec(),
+        piece: 100,
+    });
+    for known in known_texts() {
+        inputs.push(fed("known texts", known.text));
+    }
+    inputs.extend(each_value());
+    inputs.extend(made(TEXTS, 0xE17E_0000_0000_0000));
+    inputs
+}
+
+/// Each known value in each field of its notation, and in one of another.
+fn each_value() -> Vec<Fed> {
+    let fields = all_fields();
+    let mut inputs = Vec::new();
+    let mut add = |field: &Field, value: &[u8]| {
+        let line = [b"\n", field.name.as_bytes(), b" ", value, b"\n"].concat();
+        inputs.push(fed("each known value", line));
+    };
+    let mut others = fields.iter().cycle();
+    for (notation, values) in known_values() {
+        for (value, _) in values {
+            let own = fields.iter().filter(|field| field.notation == notation);
+            own.for_each(|field| add(field, value));
+            let other = others.find(|field| field.notation != notation);
+            add(other.unwrap(), value);
+        }
+    }
+    inputs
+}
+
+/// A record, and a text that gives it.
+pub fn any_text(seeded: &mut Seeded) -> (Record, Vec<u8>) {
+    let (record, lines) = any_lines(seeded);
+    (record, text_of_lines(seeded, lines))
+}
+
+fn any_lines(seeded: &mut Seeded) -> (Record, Vec<Line>) {
+    let given = match seeded.once_in(8) {
+        true => whole_record(seeded, 255),
+        false => good_record(seeded),
+    };
+    let mut record = record_given(&given.record, given.strings());
+    note_record(seeded, &mut record);
+    for entry in (0..ENTRIES.len()).filter(|entry| !ENTRIES[*entry].is_host_name) {
+        if record.entries[entry].is_some() && seeded.once_in(3) {
+            record.entries[entry] = Some(string_of_note(seeded));
+        }
+    }
+    let lines = lines_of(seeded, &record);
+    (record, lines)
+}
+
+fn faulty(seeded: &mut Seeded, faults: usize) -> Vec<u8> {
+    let (_, mut lines) = any_lines(seeded);
+    for _ in 0..faults {
+        any_damage(seeded, &mut lines);
+    }
+    text_of_lines(seeded, lines)
+}
+
+fn bytes_changed(seeded: &mut Seeded) -> Vec<u8> {
+    let (_, mut text) = any_text(seeded);
+    for _ in 0..seeded.one_of(&[1, 1, 2, 5]) {
+        any_byte(seeded, &mut text);
+    }
+    text
+}
+
+fn example_changed(seeded: &mut Seeded) -> Vec<u8> {
+    let mut text = EXAMPLE.as_bytes().to_vec();
+    any_byte(seeded, &mut text);
+    text
+}
+
+/// A comment makes the text nearly too long, or too long; the lines stand before it or behind.
+fn about_the_limit(seeded: &mut Seeded) -> Vec<u8> {
+    let text = match seeded.once_in(2) {
+        true => any_text(seeded).1,
+        false => bytes_changed(seeded),
+    };
+    let more = seeded.one_of(&[100, 5_000, 300_000]);
+    let size = LONGEST_TEXT + seeded.one_of(&[0, 0, 1, 2, more]) - seeded.one_of(&[0, 0, 1]);
+    let mut comment = vec![b'#'; size.saturating_sub(text.len() + 1)];
+    if seeded.once_in(3) {
+        comment
+            .iter_mut()
+            .skip(1)
+            .step_by(2)
+            .for_each(|byte| *byte = b'\n');
+    }
+    match seeded.once_in(2) {
+        true => [text, comment].join(&b'\n'),
+        false => [comment, text].join(&b'\n'),
+    }
+}
+
+fn random_bytes(seeded: &mut Seeded) -> Vec<u8> {
+    let size = seeded.one_of(&[1, 2, 10, 100, 1_000]);
+    seeded.bytes(size)
+}
+
+/// Fields and known values put together anyhow.
+fn random_lines(seeded: &mut Seeded) -> Vec<u8> {
+    let (fields, values) = (all_fields(), known_values());
+    let mut lines = Vec::new();
+    for _ in 0..seeded.between(1, 6) {
+        let field = fields[seeded.between(0, fields.len() - 1)].clone();
+        let own = values
+            .iter()
+            .find(|(notation, _)| *notation == field.notation);
+        let value = seeded.one_of(own.unwrap().1).0.to_vec();
+        let field = field.name;
+        lines.push(Line { field, value });
+    }
+    text_of_lines(seeded, lines)
+}
