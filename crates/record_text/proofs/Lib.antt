@@ -1,5 +1,6 @@
 pub mod FieldsLaws
 pub mod ValueLaws
+pub mod ValueBackLaws
 pub mod WidthLaws
 pub mod EnterLaws
 pub mod TellLaws
