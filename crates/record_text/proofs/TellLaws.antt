@@ -21,6 +21,7 @@ use Rattle.octets.specs.Octets.{byte, part, differs}
 use Rattle.octets.proofs.CountingLaws.{length-tabulate, getD-tabulate}
 use Rattle.octets.proofs.ReadLaws.{part-within}
 use Rattle.octets.proofs.TestLaws.{and-both, unlike-differs}
+use Rattle.text.specs.Split.{each}
 use Rattle.ibft_table.specs.Layout.{slotCount, entryCount, slotOf, kindOf}
 use Rattle.ibft_table.specs.Table.{startOf, present, sizeOf, offsetOf, holdsEntry}
 use Rattle.ibft_table.specs.Verdict.{refuse, firstOf}
@@ -36,6 +37,7 @@ use Rattle.ibft_laws.proofs.AcceptedLaws.{accepted-facts}
 use Rattle.record_text.specs.Fields.{groupOf, groupNumber, firstSlotGroup, isText, fieldIn, fieldOf, fieldCount, entryOf as entryNumber}
 use Rattle.record_text.specs.Tell.{within, structureField, recordField, bytesIn, ifAccepted, bytesOf, isTold, lineWith, lineOf, tellLine, shownAt}
 use Rattle.record_text.specs.declared.fields.Field.{Field as FieldLayout}
+use Rattle.record_text.proofs.ValueLaws.{each-at}
 use Rattle.record_text.specs.declared.tell.Place.{Place}
 
 -- the same verdict in other words
@@ -118,25 +120,14 @@ module _ (t : List ℕ) where
 fits : ℕ → FieldLayout → Bool
 fits size field = isText (field .notation) || (leb 5 (field .at) && leb (field .at + field .width) (5 + size))
 
-allFit : ℕ → List FieldLayout → Bool
-allFit size [] = true
-allFit size (field ∷ fields) = fits size field && allFit size fields
-
-fit-at : (size : ℕ) (fields : List FieldLayout) (n : ℕ) (default : FieldLayout) → allFit size fields ≡ true → fits size default ≡ true
-    → fits size (getD fields n default) ≡ true
-unfolding allFit
-fit-at size [] n default all first = first
-fit-at size (field ∷ fields) zero default all first = and-both (fits size field) _ all .0
-fit-at size (field ∷ fields) (suc n) default all first = fit-at size fields n default (and-both (fits size field) _ all .1) first
-
 -- group by group
 group-fits : (k : ℕ) → k < slotCount → (n : ℕ) → fits (bodySize (kindOf k)) (fieldIn (groupOf (firstSlotGroup + k)) n) ≡ true
-unfolding fits allFit kindOf slotOf groupOf fieldIn isText
-group-fits zero h n = fit-at 65 ((groupOf 2) .fields) n _ refl refl
-group-fits (suc zero) h n = fit-at 93 ((groupOf 3) .fields) n _ refl refl
-group-fits (suc (suc zero)) h n = fit-at 29 ((groupOf 4) .fields) n _ refl refl
-group-fits (suc (suc (suc zero))) h n = fit-at 93 ((groupOf 5) .fields) n _ refl refl
-group-fits (suc (suc (suc (suc zero)))) h n = fit-at 29 ((groupOf 6) .fields) n _ refl refl
+unfolding fits each kindOf slotOf groupOf fieldIn isText
+group-fits zero h n = each-at (fits 65) ((groupOf 2) .fields) n _ refl refl
+group-fits (suc zero) h n = each-at (fits 93) ((groupOf 3) .fields) n _ refl refl
+group-fits (suc (suc zero)) h n = each-at (fits 29) ((groupOf 4) .fields) n _ refl refl
+group-fits (suc (suc (suc zero))) h n = each-at (fits 93) ((groupOf 5) .fields) n _ refl refl
+group-fits (suc (suc (suc (suc zero)))) h n = each-at (fits 29) ((groupOf 6) .fields) n _ refl refl
 group-fits (suc (suc (suc (suc (suc k))))) h n = absurd (omega arith)
 
 fits-plain : (size : ℕ) (field : FieldLayout) → isText (field .notation) ≡ false → fits size field ≡ true

@@ -3,7 +3,7 @@
 use mathlib.Core.Path.{_≡_, refl, sym, ap, _∙_}
 use mathlib.Core.List.{List, [], _∷_, _++_, append-assoc}
 use mathlib.Core.Option.{Option, none, some, Option·map}
-use mathlib.Core.Bool.{Bool, true, false, cond, _&&_}
+use mathlib.Core.Bool.{Bool, true, false}
 use Prim.Native.Nat.{ℕ, zero, suc, _+_, _-_, _/_, _%_, _^_, _≤_, _<_}
 use native.Mathlib.Nat.{zero-add, suc-add}
 use native.Mathlib.Omega.{arith}
@@ -12,6 +12,7 @@ use lib.ListN.{length, take, drop, getD, length-append, List·getD-eq-default}
 use lib.Dec.{ltb, leb}
 use native.Mathlib.Decide.{decLt}
 use Rattle.octets.specs.Octets.{le16, le64, zeros, write}
+use Rattle.octets.proofs.TestLaws.{and-both}
 use Rattle.octets.proofs.WriteLaws.{length-zeros, write-front}
 use Rattle.text.specs.Split.{each}
 use Rattle.text.specs.Words.{wordNumber, wordCount}
@@ -102,19 +103,11 @@ oem-width notation width e h = leb-true width 16 (sym (ap (λ (n : Notation). fi
 fit : FieldLayout → Bool
 fit field = fits (field .notation) (field .width)
 
-and-left : (a b : Bool) → (a && b) ≡ true → a ≡ true
-and-left true b e = refl
-and-left false b e = e
-
-and-right : (a b : Bool) → (a && b) ≡ true → b ≡ true
-and-right true b e = e
-and-right false b e = let z : _≡_ {A = ℕ} 0 1 = cc in absurd (omega arith)
-
-each-at {ℓ} : {A : Type ℓ} (p : A → Bool) (xs : List A) (n : ℕ) (d : A) → each p xs ≡ true → p d ≡ true → p (getD xs n d) ≡ true
+pub each-at {ℓ} : {A : Type ℓ} (p : A → Bool) (xs : List A) (n : ℕ) (d : A) → each p xs ≡ true → p d ≡ true → p (getD xs n d) ≡ true
 unfolding each
 each-at p [] n d all last = last
-each-at p (x ∷ xs) zero d all last = and-left (p x) (each p xs) all
-each-at p (x ∷ xs) (suc n) d all last = each-at p xs n d (and-right (p x) (each p xs) all) last
+each-at p (x ∷ xs) zero d all last = and-both (p x) (each p xs) all .0
+each-at p (x ∷ xs) (suc n) d all last = each-at p xs n d (and-both (p x) (each p xs) all .1) last
 
 groupFits : Group → Bool
 groupFits group = each fit (group .fields)
