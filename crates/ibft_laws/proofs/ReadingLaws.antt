@@ -5,6 +5,9 @@
 --     initiator-gives, nic-gives, target-gives                       a structure: its fields laid out are the record's
 --     initiator-fields-same, nic-.., target-..                       equal records have equal flags and fields, whatever the bytes
 --     entry-gives, entry-text, entry-place                           an entry: its view, the words that its structure shows, its place
+--     structure-absent, structure-there                              by what the record holds of a slot: what a reading answers
+--     structure-gives, structure-fields, initiator-held, ..          and shows
+--     entry-absent, entry-there, entry-held, entry-size, entry-words the same of an entry
 -- Assumes nothing.
 use mathlib.Core.Path.{_≡_, refl, sym, ap, ap₂, _∙_}
 use mathlib.Core.Bool.{Bool, true, false, not}
@@ -15,21 +18,24 @@ use native.Mathlib.Omega.{arith}
 use borrow.Author.Tests.{le-leb, lt-leb}
 use lib.ListN.{length, getD, drop, length-drop}
 use lib.Seq.{getD-drop}
-use Rattle.octets.specs.Octets.{byte, word16, part}
-use Rattle.octets.proofs.ReadLaws.{bytes-part, part-from}
+use Rattle.octets.specs.Octets.{byte, word16, part, differs}
+use Rattle.octets.proofs.ReadLaws.{bytes-part, part-from, part-at}
+use Rattle.octets.proofs.TestLaws.{and-other, or-both, differs-no}
 use Rattle.ibft_table.specs.Layout.{Kind, initiator, nic, target, slotCount, entryCount, kindOf, ownerOf, stringOf, nicSlot, targetSlot, slotOf}
 use Rattle.ibft_table.specs.Verdict.{firstOf, refusalOf, shown}
 use Rattle.ibft_table.specs.Table.{startOf, present, fieldOf, sizeOf, offsetOf, holdsEntry}
 use Rattle.ibft_table.specs.Check.{checkTests, checkOf}
 use Rattle.ibft_table.specs.Record.{Record, shownIf, bodySize, listed, contentOf, recordOf}
 use Rattle.ibft_table.specs.Readings.{textAt, headerIn, initiatorIn, nicIn, targetIn, headerOf, slotVerdict, structureIn, structureFrom, structureOf, initiatorOf, nicOf, targetOf, entryVerdict, entryFrom, entryOf, viewOf}
+use Rattle.ibft_table.specs.declared.text.Text.{Text}
+use Rattle.ibft_table.specs.declared.entry.EntryReading.{EntryReading}
 use Rattle.ibft_table.specs.declared.verdict.Verdict.{Verdict}
 use Rattle.ibft_table.specs.declared.verdict.Verdict.the-variants.{Accepted, Refused}
 use Rattle.ibft_laws.specs.Bodies.{initiatorFields, nicFields, targetFields, initiatorBody, nicBody, targetBody, initiatorFrom, nicFrom, targetFrom}
 use Rattle.ibft_table.proofs.VerdictLaws.{accept-cons, accept-none, pass-cons, fail-cons, append-accepted}
 use Rattle.ibft_laws.proofs.LayoutLaws.{slot-fits, entry-fits}
-use Rattle.ibft_laws.proofs.TableLaws.{length-least, length-le, slot-end-le}
-use Rattle.ibft_laws.proofs.RecordLaws.{structure-listed, entry-listed, table-presence-same}
+use Rattle.ibft_laws.proofs.TableLaws.{length-least, length-le, slot-end-le, entry-owner-on, entry-length}
+use Rattle.ibft_laws.proofs.RecordLaws.{shown-some, structure-listed, entry-listed, table-presence-same}
 use Rattle.ibft_laws.proofs.BodyLaws.{initiator-laid, initiator-read, nic-laid, nic-read, target-laid, target-read}
 
 -- ---- the kinds of the slots by name
@@ -102,12 +108,6 @@ module _ (t : List ℕ) (ok : checkOf t ≡ Accepted) where
     structure-shown : structureIn t k ≡ drop (startOf t k) t
     unfolding structureIn shown
     structure-shown = ap (λ (v : Verdict). shown v (drop (startOf t k) t)) (slot-verdict k h on)
-
-    -- its kind, start and flags
-    pub structure-gives : structureOf t k
-        ≡ record { refusal = record { number = 0; place = 0 }; id = (kindOf k) .id; start = startOf t k; flags = byte t (startOf t k + 5) }
-    unfolding structureOf structureFrom refusalOf
-    structure-gives = ap (structureFrom t k) (slot-verdict k h on)
 
     -- the record's flags and fields are bytes 5 up to the first string word of what is shown
     pub structure-body : getD ((recordOf t) .structures) k none ≡ some (part (structureIn t k) 5 (bodySize (kindOf k)))
@@ -199,6 +199,118 @@ module _ (t : List ℕ) (ok : checkOf t ≡ Accepted) where
         λ i. ap (λ (l : List ℕ). word16 l i) (structure-shown (ownerOf n) owner on)
         ∙ ap₂ (λ (a b : ℕ). a + 256 * b) (getD-drop s t i 0) (getD-drop s t (i + 1) 0 ∙ ap (byte t) (omega arith)) in
         ap₂ (λ (l o : ℕ). record { length = l; offset = o }) (word at) (word (at + 2) ∙ ap (word16 t) (omega arith))
+
+-- ---- readings by what the record holds
+
+shown-none : (b : Bool) (x : List ℕ) → shownIf b x ≡ none → b ≡ false
+shown-none false x e = refl
+shown-none true x e = absurd (let z : _≡_ {A = ℕ} 0 1 = cc in omega arith)
+
+module _ (t : List ℕ) (ok : checkOf t ≡ Accepted) where
+  module _ (k : ℕ) (h : k < slotCount) where
+    pub structure-absent : getD ((recordOf t) .structures) k none ≡ none → slotVerdict t k ≡ Refused (record { number = 22; place = 0 })
+    unfolding recordOf contentOf
+    structure-absent e = slot-missing t ok k h (shown-none (present t k) _ (sym (structure-listed (contentOf t) k h) ∙ e))
+
+    module _ (body : List ℕ) (holds : getD ((recordOf t) .structures) k none ≡ some body) where
+      held-body : (present t k ≡ true) × (part t (startOf t k + 5) (bodySize (kindOf k)) ≡ body)
+      unfolding recordOf contentOf
+      held-body = shown-some (present t k) _ body (sym (structure-listed (contentOf t) k h) ∙ holds)
+
+      pub structure-there : slotVerdict t k ≡ Accepted
+      structure-there = slot-verdict t ok k h (held-body .0)
+
+      pub structure-flags : byte t (startOf t k + 5) ≡ byte body 0
+      structure-flags =
+          let flags = slot-fits k h .flags in
+          ap (byte t) (omega arith)
+          ∙ sym (part-at t (startOf t k + 5) (bodySize (kindOf k)) 0 (omega arith))
+          ∙ ap (λ (l : List ℕ). byte l 0) (held-body .1)
+
+      -- its kind and start, and the record's flags
+      pub structure-gives : structureOf t k
+          ≡ record { refusal = record { number = 0; place = 0 }; id = (kindOf k) .id; start = startOf t k; flags = byte body 0 }
+      unfolding structureOf structureFrom refusalOf
+      structure-gives =
+          ap (structureFrom t k) structure-there
+          ∙ ap (λ (f : ℕ). record { refusal = record { number = 0; place = 0 }; id = (kindOf k) .id; start = startOf t k; flags = f }) structure-flags
+
+      -- the part of the table that starts with it has the record's flags and fields from 5 on
+      pub structure-fields : part (structureIn t k) 5 (bodySize (kindOf k)) ≡ body
+      structure-fields =
+          ap (λ (l : List ℕ). part l 5 (bodySize (kindOf k))) (structure-shown t ok k h (held-body .0))
+          ∙ part-from t (startOf t k) 5 (bodySize (kindOf k))
+          ∙ held-body .1
+
+      -- what a kind's reading shows is what `from` reads of the flags and fields
+      held : {R : Type 0} (kind : Kind) (read : List ℕ → R) (from : List ℕ → R) → kindOf k ≡ kind
+          → ((p : List ℕ) → kind .stringsAt ≤ length p → from (part p 5 (bodySize kind)) ≡ read p)
+          → read (structureIn t k) ≡ from body
+      held kind read from is reads =
+          let on = held-body .0 in
+          sym (reads (structureIn t k) (rw is at (structure-long t ok k h on)))
+          ∙ ap (λ (κ : Kind). from (part (structureIn t k) 5 (bodySize κ))) (sym is)
+          ∙ ap from structure-fields
+
+  pub initiator-held : (body : List ℕ) → getD ((recordOf t) .structures) 0 none ≡ some body → initiatorFields ((initiatorOf t) .fields) ≡ initiatorFrom body
+  unfolding initiatorOf
+  initiator-held body holds =
+      held 0 (omega arith) body holds initiator (λ (p : List ℕ). initiatorFields (initiatorIn p)) initiatorFrom initiator-kind initiator-read
+
+  module _ (n : ℕ) (body : List ℕ) where
+    pub nic-held : nicSlot n < slotCount → getD ((recordOf t) .structures) (nicSlot n) none ≡ some body → nicFields ((nicOf t n) .fields) ≡ nicFrom body
+    unfolding nicOf
+    nic-held h holds = held (nicSlot n) h body holds nic (λ (p : List ℕ). nicFields (nicIn p)) nicFrom (nic-kind n h) nic-read
+
+    pub target-held : targetSlot n < slotCount → getD ((recordOf t) .structures) (targetSlot n) none ≡ some body
+        → targetFields ((targetOf t n) .fields) ≡ targetFrom body
+    unfolding targetOf
+    target-held h holds = held (targetSlot n) h body holds target (λ (p : List ℕ). targetFields (targetIn p)) targetFrom (target-kind n h) target-read
+
+  module _ (n : ℕ) (h : n < entryCount) where
+    pub entry-absent : getD ((recordOf t) .entries) n none ≡ none → entryVerdict t n ≡ Refused (record { number = 22; place = 0 })
+    unfolding recordOf contentOf
+    entry-absent e = entry-missing t ok n h (shown-none (holdsEntry t n) _ (sym (entry-listed (contentOf t) n h) ∙ e))
+
+    module _ (bytes : List ℕ) (holds : getD ((recordOf t) .entries) n none ≡ some bytes) where
+      held-entry : (holdsEntry t n ≡ true) × (part t (offsetOf t n) (sizeOf t n) ≡ bytes)
+      unfolding recordOf contentOf
+      held-entry = shown-some (holdsEntry t n) _ bytes (sym (entry-listed (contentOf t) n h) ∙ holds)
+
+      pub entry-there : entryVerdict t n ≡ Accepted
+      entry-there = entry-verdict t ok n h (held-entry .0)
+
+      pub entry-held : viewOf t n ≡ bytes
+      unfolding viewOf shown
+      entry-held = ap (λ (v : Verdict). shown v (part t (offsetOf t n) (sizeOf t n))) entry-there ∙ held-entry .1
+
+      pub entry-size : (entryOf t n) .length ≡ length bytes
+      entry-size =
+          ap (λ (r : EntryReading). r .length) (entry-place t ok n h (held-entry .0))
+          ∙ sym (entry-length t ok n h (held-entry .0))
+          ∙ ap length (held-entry .1)
+
+    -- the words that its owner's reading shows are where its own reading says that it stands, 0 and 0 where either is refused
+    pub entry-words : textAt (structureIn t (ownerOf n)) ((stringOf n) .at) ≡ record { length = (entryOf t n) .length; offset = (entryOf t n) .offset }
+    unfolding holdsEntry entryOf entryFrom
+    entry-words = go (present t (ownerOf n)) (holdsEntry t n) refl refl
+      where
+        place : EntryReading → Text
+        place r = record { length = r .length; offset = r .offset }
+
+        refused : holdsEntry t n ≡ false → record { length = 0; offset = 0 } ≡ place (entryOf t n)
+        refused off = sym (ap (λ (v : Verdict). place (entryFrom t n v)) (entry-missing t ok n h off))
+
+        go : (o b : Bool) → present t (ownerOf n) ≡ o → holdsEntry t n ≡ b → textAt (structureIn t (ownerOf n)) ((stringOf n) .at) ≡ place (entryOf t n)
+        go o true p q =
+            entry-text t ok n h (entry-owner-on t n q) ∙ sym (ap place (entry-place t ok n h q))
+        go true false p q =
+            let z = or-both (differs (sizeOf t n) 0) _ (and-other (present t (ownerOf n)) _ q p) in
+            entry-text t ok n h p
+            ∙ ap₂ (λ (l o : ℕ). record { length = l; offset = o }) (differs-no (sizeOf t n) 0 (z .0)) (differs-no (offsetOf t n) 0 (z .1))
+            ∙ refused q
+        go false false p q =
+            ap (λ (l : List ℕ). textAt l ((stringOf n) .at)) (structure-hidden t ok (ownerOf n) (entry-fits n h .owner) p) ∙ refused q
 
 -- ---- equal records have equal readings
 
