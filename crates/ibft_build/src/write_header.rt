@@ -2,6 +2,7 @@
 use crate::record::FLAGS_AT;
 use crate::starts::structure_start;
 use ibft_table::control::Control;
+use ibft_table::header::Header;
 use ibft_table::layout::SLOT_COUNT;
 use octets::read::byte_at;
 use octets::read::part;
@@ -20,15 +21,15 @@ fn header_start(size: u32) -> [u8; 10]
     ensures { λ r. ⌜ r ≡ headerStart size ⌝ }
 {
     [
-        b'i',
-        b'B',
-        b'F',
-        b'T',
+        (Header::SIGNATURE % 256) as u8,
+        (Header::SIGNATURE / 256 % 256) as u8,
+        (Header::SIGNATURE / 65536 % 256) as u8,
+        (Header::SIGNATURE / 65536 / 256 % 256) as u8,
         (size % 256) as u8,
         (size / 256 % 256) as u8,
         (size / 65536 % 256) as u8,
         (size / 65536 / 256 % 256) as u8,
-        1,
+        Header::REVISION,
         0,
     ]
 }

@@ -49,16 +49,8 @@ fn strings_at(k: u8) -> u16
 fn start_bytes(k: u8) -> [u8; 5]
     ensures { λ r. ⌜ r ≡ startBytes (kindOf k) (indexOf k) ⌝ }
 {
-    let kind = kind_of(k);
-    let size = kind.length;
     let index = index_of(k);
-    [
-        kind.id,
-        kind.version,
-        (size % 256) as u8,
-        (size / 256 % 256) as u8,
-        index,
-    ]
+    kind_of(k).start(index)
 }
 
 // Entry n's length; 0 where it is missing.

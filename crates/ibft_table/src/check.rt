@@ -6,12 +6,10 @@ use crate::check_header::check_header;
 use crate::check_overlaps::check_overlaps;
 use crate::check_slots::check_slots;
 use crate::control::Control;
+use crate::header::Header;
 use crate::layout::length_of;
 use crate::verdict::Verdict;
 ghost use Rattle.ibft_table.specs.Promises.{Check};
-
-// `iBFT`, little endian.
-const SIGNATURE: u32 = 0x54464269;
 
 // The header, and a table in which nothing is present: Control stands behind the header, and the table ends with it.
 const LEAST_LENT: usize = Control::AT as usize;
@@ -21,7 +19,7 @@ const LEAST_LENGTH: u32 = Control::END as u32;
 pub fn check(t: &[u8]) -> Verdict
     ensures { λ r. ⌜ Check (now (t .entry)) r ⌝ }
 {
-    let v = check_header(t, SIGNATURE, LEAST_LENT, LEAST_LENGTH);
+    let v = check_header(t, Header::SIGNATURE, LEAST_LENT, LEAST_LENGTH);
     if let Verdict::Refused(_) = v {
         return v;
     }

@@ -1,6 +1,5 @@
 // The check of Control: refusals 9 to 11; and of what every structure starts with.
 use crate::control::Control;
-use crate::layout::CONTROL;
 use crate::layout::FLAGS_AT;
 use crate::layout::Shape;
 use crate::verdict::Verdict;
@@ -33,7 +32,7 @@ pub(crate) fn alien(t: &[u8], start: u16, shape: Shape, index: u8) -> bool
 pub(crate) fn check_control(t: &[u8]) -> Verdict
     ensures { λ r. ⌜ r ≡ firstOf (controlTests (now (t .entry))) ⌝ }
 {
-    if alien(t, Control::AT, CONTROL, 0) {
+    if alien(t, Control::AT, Control::shape(), 0) {
         return refuse(9, Control::AT as u32);
     }
     let flags_at = Control::AT as u32 + FLAGS_AT as u32;

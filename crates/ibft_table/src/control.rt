@@ -1,6 +1,13 @@
 // The Control structure.
+use crate::layout::FLAGS_AT;
+use crate::layout::Shape;
 use octets::read::byte_at;
+use octets::read::part;
 ghost use mathlib.Core.Path.{_≡_};
+ghost use Prim.Native.Nat.{_+_};
+ghost use Rattle.octets.specs.Octets.{byte};
+ghost use Rattle.ibft_table.specs.Layout.{control, controlAt};
+ghost use Rattle.ibft_table.specs.Shapes.{shapeOf};
 ghost use Rattle.ibft_table.specs.Readings.{controlIn};
 
 // Its flags; the words that say where the other structures start are read by slot.
@@ -27,12 +34,32 @@ impl Control {
 
     pub const WORDS_AT: u16 = 56;
 
+    // What the layout knows of the kind.
+    pub fn shape() -> Shape
+        ensures { λ r. ⌜ r ≡ shapeOf control ⌝ }
+    {
+        Shape {
+            id: Self::ID,
+            version: Self::VERSION,
+            length: Self::LENGTH,
+            reserved: Self::RESERVED,
+            chap: false,
+        }
+    }
+
     // The Control structure whose first byte is the part's.
-    pub fn read(part: &[u8]) -> Control
+    pub(crate) fn read(part: &[u8]) -> Control
         ensures { λ r. ⌜ r ≡ controlIn (now (part .entry)) ⌝ }
     {
         Control {
-            flags: byte_at(part, 5),
+            flags: byte_at(part, FLAGS_AT as usize),
         }
+    }
+
+    // The Control structure of a table: it is read from 48 on, behind the header.
+    pub(crate) fn of_table(t: &[u8]) -> Control
+        ensures { λ r. ⌜ r .flags ≡ byte (now (t .entry)) (controlAt + 5) ⌝ }
+    {
+        Control::read(part(t, Control::AT as usize, t.len()))
     }
 }

@@ -1,4 +1,5 @@
 // The initiator structure.
+use crate::layout::Shape;
 use crate::reading::refusal_of;
 use crate::structure::slot_verdict;
 use crate::structure::structure_part;
@@ -7,6 +8,8 @@ use crate::verdict::Refusal;
 use octets::read::byte_at;
 use octets::read::sixteen_at;
 ghost use mathlib.Core.Path.{_≡_};
+ghost use Rattle.ibft_table.specs.Layout.{initiator};
+ghost use Rattle.ibft_table.specs.Shapes.{shapeOf};
 ghost use Rattle.ibft_table.specs.Readings.{initiatorIn, initiatorOf};
 
 pub struct Initiator {
@@ -27,8 +30,21 @@ impl Initiator {
     // The mask of the flag bits that are not named (flag bits 0 and 1: valid, selected).
     pub const RESERVED: u8 = 0xFC;
 
+    // What the layout knows of the kind.
+    pub(crate) fn shape() -> Shape
+        ensures { λ r. ⌜ r ≡ shapeOf initiator ⌝ }
+    {
+        Shape {
+            id: Self::ID,
+            version: Self::VERSION,
+            length: Self::LENGTH,
+            reserved: Self::RESERVED,
+            chap: false,
+        }
+    }
+
     // The initiator whose first byte is the part's.
-    pub fn read(part: &[u8]) -> Initiator
+    pub(crate) fn read(part: &[u8]) -> Initiator
         ensures { λ r. ⌜ r ≡ initiatorIn (now (part .entry)) ⌝ }
     {
         Initiator {

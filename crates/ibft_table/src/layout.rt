@@ -7,7 +7,7 @@ use octets::read::u16_at;
 use octets::read::u32_at;
 ghost use mathlib.Core.Path.{_≡_};
 ghost use Rattle.ibft_table.specs.Layout.{kindOf, indexOf, ownerOf, stringOf, wordAt};
-ghost use Rattle.ibft_table.specs.Shapes.{shapeOf, stringShape};
+ghost use Rattle.ibft_table.specs.Shapes.{shapeOf, startBytes, stringShape};
 ghost use Rattle.ibft_table.specs.Table.{lengthOf, startOf, endOf, fieldOf, holdsEntry};
 
 // Where the header's fields stand.
@@ -37,37 +37,21 @@ pub struct Shape {
     pub chap: bool,
 }
 
-pub(crate) const CONTROL: Shape = Shape {
-    id: Control::ID,
-    version: Control::VERSION,
-    length: Control::LENGTH,
-    reserved: Control::RESERVED,
-    chap: false,
-};
-
-const INITIATOR: Shape = Shape {
-    id: Initiator::ID,
-    version: Initiator::VERSION,
-    length: Initiator::LENGTH,
-    reserved: Initiator::RESERVED,
-    chap: false,
-};
-
-const NIC: Shape = Shape {
-    id: Nic::ID,
-    version: Nic::VERSION,
-    length: Nic::LENGTH,
-    reserved: Nic::RESERVED,
-    chap: false,
-};
-
-const TARGET: Shape = Shape {
-    id: Target::ID,
-    version: Target::VERSION,
-    length: Target::LENGTH,
-    reserved: Target::RESERVED,
-    chap: true,
-};
+impl Shape {
+    // What a structure of the kind starts with, up to its flags: ID, Version, Length, Index.
+    pub fn start(self, index: u8) -> [u8; 5]
+        ensures { λ r. ⌜ r ≡ startBytes self index ⌝ }
+    {
+        let size = self.length;
+        [
+            self.id,
+            self.version,
+            (size % 256) as u8,
+            (size / 256 % 256) as u8,
+            index,
+        ]
+    }
+}
 
 // The slots are numbered in the order of their Control words: initiator, NIC 0, Target 0, NIC 1, Target 1. (What is known of
 // a number is a `match`, which LLVM makes a table; a constant array would be laid on the stack at each call.)
@@ -78,11 +62,11 @@ pub fn kind_of(k: u8) -> Shape
     ensures { λ r. ⌜ r ≡ shapeOf (kindOf k) ⌝ }
 {
     match k {
-        1 => NIC,
-        2 => TARGET,
-        3 => NIC,
-        4 => TARGET,
-        _ => INITIATOR,
+        1 => Nic::shape(),
+        2 => Target::shape(),
+        3 => Nic::shape(),
+        4 => Target::shape(),
+        _ => Initiator::shape(),
     }
 }
 

@@ -1,7 +1,6 @@
 // The login order.
 use crate::check::check;
 use crate::control::Control;
-use crate::header::CONTROL_FLAGS;
 use crate::layout::FLAGS_AT;
 use crate::reading::ACCEPTED;
 use crate::structure::slot_start;
@@ -90,7 +89,7 @@ fn is_selected(t: &[u8], n: u8) -> bool
 fn lead_of(t: &[u8]) -> u8
     ensures { λ r. ⌜ r ≡ chosen (now (t .entry)) ⌝ }
 {
-    if byte_at(t, CONTROL_FLAGS) & Control::SINGLE_LOGIN == 0 {
+    if Control::of_table(t).flags & Control::SINGLE_LOGIN == 0 {
         return TARGET_COUNT;
     }
     let mut n: u8 = 0;

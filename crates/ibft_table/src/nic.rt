@@ -1,4 +1,5 @@
 // The NIC structure.
+use crate::layout::Shape;
 use crate::reading::refusal_of;
 use crate::structure::slot_verdict;
 use crate::structure::structure_part;
@@ -9,7 +10,8 @@ use octets::read::six_at;
 use octets::read::sixteen_at;
 use octets::read::u16_at;
 ghost use mathlib.Core.Path.{_≡_};
-ghost use Rattle.ibft_table.specs.Layout.{nicSlot};
+ghost use Rattle.ibft_table.specs.Layout.{nic, nicSlot};
+ghost use Rattle.ibft_table.specs.Shapes.{shapeOf};
 ghost use Rattle.ibft_table.specs.Readings.{nicIn, nicOf};
 
 pub struct Nic {
@@ -43,8 +45,21 @@ impl Nic {
         1 + 2 * n as u16
     }
 
+    // What the layout knows of the kind.
+    pub(crate) fn shape() -> Shape
+        ensures { λ r. ⌜ r ≡ shapeOf nic ⌝ }
+    {
+        Shape {
+            id: Self::ID,
+            version: Self::VERSION,
+            length: Self::LENGTH,
+            reserved: Self::RESERVED,
+            chap: false,
+        }
+    }
+
     // The NIC whose first byte is the part's.
-    pub fn read(part: &[u8]) -> Nic
+    pub(crate) fn read(part: &[u8]) -> Nic
         ensures { λ r. ⌜ r ≡ nicIn (now (part .entry)) ⌝ }
     {
         Nic {

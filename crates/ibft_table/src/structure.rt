@@ -12,10 +12,14 @@ use octets::read::byte_at;
 use octets::read::part;
 use octets::read::u16_at;
 ghost use mathlib.Core.Path.{_≡_};
-ghost use lib.ListN.{drop};
+ghost use Prim.Native.Nat.{_-_, _≤_};
+ghost use lib.ListN.{length, drop};
+ghost use Rattle.octets.specs.View.{Shows};
 ghost use Rattle.ibft_table.specs.Verdict.{shown};
 ghost use Rattle.ibft_table.specs.Table.{startOf};
 ghost use Rattle.ibft_table.specs.Readings.{slotVerdict, structureOf};
+ghost use Rattle.ibft_table.specs.Promises.{StructureView};
+ghost use Rattle.ibft_table.specs.declared.verdict.Verdict.the-variants.{Accepted};
 
 // A structure by slot: its kind as its ID, its start, its flags.
 pub struct StructureReading {
@@ -42,6 +46,8 @@ pub(crate) fn slot_verdict(t: &[u8], k: u16) -> Verdict
 // The part of the table from the offset on that slot k's Control word gives: what the reader of that structure is lent.
 pub(crate) fn structure_part(t: &[u8], k: u16, verdict: Verdict) -> &[u8]
     ensures { λ r. ⌜ now r ≡ shown verdict (drop (startOf (now (t .entry)) k) (now (t .entry))) ⌝ }
+    ensures stands { λ r. ⌜ (verdict ≡ Accepted → startOf (now (t .entry)) k ≤ length (now (t .entry))
+        → Shows (t .entry) r (startOf (now (t .entry)) k) (length (now (t .entry)) - startOf (now (t .entry)) k)) ⌝ }
 {
     let start = slot_start(t, k) as usize;
     shown_of(verdict, part(t, start, t.len()))
@@ -68,4 +74,13 @@ pub fn read_structure(t: &[u8], slot: u8) -> StructureReading
             flags: 0,
         },
     }
+}
+
+// The table from the structure of a slot on, shown and not copied: its bytes are what a reader of that structure is lent. No
+// bytes where its reading is refused.
+pub fn structure_view(t: &[u8], slot: u8) -> &[u8]
+    ensures { λ r. ⌜ StructureView (t .entry) slot r ⌝ }
+{
+    let verdict = slot_verdict(t, slot as u16);
+    structure_part(t, slot as u16, verdict)
 }

@@ -1,4 +1,5 @@
 // The target structure.
+use crate::layout::Shape;
 use crate::reading::refusal_of;
 use crate::structure::slot_verdict;
 use crate::structure::structure_part;
@@ -9,7 +10,8 @@ use octets::read::sixteen_at;
 use octets::read::u16_at;
 use octets::read::u64_at;
 ghost use mathlib.Core.Path.{_≡_};
-ghost use Rattle.ibft_table.specs.Layout.{targetSlot};
+ghost use Rattle.ibft_table.specs.Layout.{target, targetSlot};
+ghost use Rattle.ibft_table.specs.Shapes.{shapeOf};
 ghost use Rattle.ibft_table.specs.Readings.{targetIn, targetOf};
 
 pub struct Target {
@@ -47,8 +49,21 @@ impl Target {
         2 + 2 * n as u16
     }
 
+    // What the layout knows of the kind.
+    pub(crate) fn shape() -> Shape
+        ensures { λ r. ⌜ r ≡ shapeOf target ⌝ }
+    {
+        Shape {
+            id: Self::ID,
+            version: Self::VERSION,
+            length: Self::LENGTH,
+            reserved: Self::RESERVED,
+            chap: true,
+        }
+    }
+
     // The target whose first byte is the part's.
-    pub fn read(part: &[u8]) -> Target
+    pub(crate) fn read(part: &[u8]) -> Target
         ensures { λ r. ⌜ r ≡ targetIn (now (part .entry)) ⌝ }
     {
         Target {

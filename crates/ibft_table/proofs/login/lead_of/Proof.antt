@@ -22,7 +22,7 @@ abbrev μ-loop : tie.MeasureT-loop
 
 returns : tie.Need-returns Inv-loop μ-loop
 unfolding chosen
-returns c = rw (← c .before .byte-at .ensures, eq-eqb (bitAnd (c .before .byte-at .result) 1) 0 (c .if1 .taken))
+returns c = rw (← c .before .before .of-table .ensures, eq-eqb (bitAnd (c .before .before .of-table .result .flags) 1) 0 (c .if1 .taken))
 
 loop-holds : tie.Need-loop-holds Inv-loop μ-loop
 loop-holds c = (search needs, below-none _)
@@ -30,11 +30,11 @@ loop-holds c = (search needs, below-none _)
 returns-2 : tie.Need-returns-2 Inv-loop μ-loop
 unfolding chosen
 returns-2 c =
-    let t = c .before .before .before .before .before .before .before .args .t .now in
+    let t = c .before .before .before .before .before .before .before .before .args .t .now in
     let l = c .before .before .before .loop in
-    let flags = c .before .before .before .before .before .byte-at in
+    let flags = c .before .before .before .before .before .before .of-table in
     let hit = sym (c .before .is-selected .ensures) ∙ c .if2 .taken in
-    rw (← flags .ensures, ne-eqb (bitAnd (flags .result) 1) 0 (c .before .before .before .before .if1 .left)) (sym (first-is targetCount (selected t) (l .n) (omega arith) (l .inv .1) (λ h. hit)))
+    rw (← flags .ensures, ne-eqb (bitAnd (flags .result .flags) 1) 0 (c .before .before .before .before .if1 .left)) (sym (first-is targetCount (selected t) (l .n) (omega arith) (l .inv .1) (λ h. hit)))
 
 loop-again : tie.Need-loop-again Inv-loop μ-loop
 loop-again c =
@@ -44,10 +44,10 @@ loop-again c =
 returns-3 : tie.Need-returns-3 Inv-loop μ-loop
 unfolding chosen
 returns-3 c =
-    let t = c .before .before .before .before .before .args .t .now in
+    let t = c .before .before .before .before .before .before .args .t .now in
     let l = c .before .loop in
-    let flags = c .before .before .before .byte-at in
-    rw (← flags .ensures, ne-eqb (bitAnd (flags .result) 1) 0 (c .before .before .if1 .left)) (sym (first-is targetCount (selected t) targetCount (omega arith) (λ i h. l .inv .1 i (omega arith)) (λ h. absurd (omega arith))))
+    let flags = c .before .before .before .before .of-table in
+    rw (← flags .ensures, ne-eqb (bitAnd (flags .result .flags) 1) 0 (c .before .before .if1 .left)) (sym (first-is targetCount (selected t) targetCount (omega arith) (λ i h. l .inv .1 i (omega arith)) (λ h. absurd (omega arith))))
 
 pub lead-of-spec : {M : Type 1} → statement M
 lead-of-spec = tie.close (tie.spec Inv-loop μ-loop (search needs) returns loop-holds (search needs) returns-2 (search needs) (search needs) loop-again returns-3)
