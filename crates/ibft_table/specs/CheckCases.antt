@@ -1,8 +1,8 @@
 -- Worked tables and the verdict of each, by computation: as one list under one theorem.
 use mathlib.Core.Path.{_≡_, refl}
 use mathlib.Core.List.{List, [], _∷_, _++_, map}
-use Prim.Native.Nat.{ℕ, _+_, _-_}
-use lib.ListN.{take}
+use Prim.Native.Nat.{ℕ, zero, suc, _+_, _-_}
+use lib.ListN.{length, take}
 use Rattle.octets.specs.Octets.{le16, le32, zeros, checksum, write}
 use Rattle.ibft_table.specs.Layout.{control, controlAt, controlEnd, wordAt, kindOf, indexOf, chapAt}
 use Rattle.ibft_table.specs.Check.{checkOf}
@@ -47,6 +47,27 @@ case5 =
 crossed : List ℕ
 crossed = sealed (place 3 192 0 (place 0 176 0 (place 2 96 0 (place 1 72 0 (blank 294)))))
 
+-- n letters
+letters : ℕ → List ℕ
+letters zero = []
+letters (suc n) = 0x61 ∷ letters n
+
+-- slot k alone, at 72, with one string: its words stand at `at` of the structure, its bytes behind it
+alone : ℕ → ℕ → List ℕ → List ℕ
+alone k at string =
+    let end = 72 + (kindOf k) .length in
+    sealed (write (words (72 + at) (length string) end (place k 72 1 (blank (end + length string + 1)))) end string)
+
+-- Target 0 with a name, or a CHAP name, of n letters; NIC 0 with a host name
+named : ℕ → List ℕ
+named n = alone 2 34 (letters n)
+
+chapNamed : ℕ → List ℕ
+chapNamed n = alone 2 38 (letters n)
+
+hosted : List ℕ → List ℕ
+hosted name = alone 1 98 name
+
 record Case : Type 0 where
   table : List ℕ
   verdict : Verdict
@@ -62,18 +83,37 @@ cases =
     accepts bare
     ∷ accepts case5
     ∷ refuses 3 0 (take 47 bare)
+    ∷ refuses 4 0 (changed 0 0x49 case5)
     ∷ refuses 5 4 (take 132 case5)
     ∷ refuses 6 9 (write case5 20 (1 ∷ []))
+    ∷ refuses 7 8 (changed 8 2 case5)
     ∷ refuses 8 10 (changed 12 0x41 case5)
+    -- Control's ID, version, length (24, an expanded one) and Index
+    ∷ refuses 9 48 (changed 48 2 case5)
+    ∷ refuses 9 48 (changed 49 0 case5)
+    ∷ refuses 9 48 (changed 50 24 case5)
+    ∷ refuses 9 48 (changed 52 1 case5)
     ∷ refuses 10 77 (changed 77 0x11 case5)
+    ∷ refuses 11 54 (changed 54 1 case5)
     ∷ refuses 12 60 (changed 61 0xFF case5)
+    -- Target 0 with the Index of Target 1
+    ∷ refuses 13 72 (changed 76 1 case5)
     ∷ refuses 19 104 (changed (72 + chapAt) 3 case5)
     ∷ refuses 14 60 crossed
     ∷ refuses 15 110 (changed 112 125 case5)
     -- length 0 with another offset is present and empty, and no zero byte stands there
     ∷ refuses 16 110 (changed 110 0 case5)
+    -- names of 223 and 224 bytes, CHAP names of 255 and 256
+    ∷ accepts (named 223)
+    ∷ refuses 17 106 (named 224)
+    ∷ accepts (chapNamed 255)
+    ∷ refuses 17 110 (chapNamed 256)
+    -- bench case 11: `a.` is good, `a.b.` is not; nor is a present empty host name
+    ∷ accepts (hosted (0x61 ∷ 0x2E ∷ []))
+    ∷ refuses 18 170 (hosted (0x61 ∷ 0x2E ∷ 0x62 ∷ 0x2E ∷ []))
+    ∷ refuses 18 170 (hosted [])
     ∷ []
 
 judged : map (λ (c : Case). checkOf (c .table)) cases ≡ map (λ (c : Case). c .verdict) cases
-unfolding computing blank place words sealed changed bare case5 crossed accepts refuses cases
+unfolding computing blank place words sealed changed bare case5 crossed letters alone named chapNamed hosted accepts refuses cases
 judged = refl

@@ -1,9 +1,9 @@
 -- Readings and login orders, worked out by computation. (Bench case 10, the PCI word, stands in LayoutCases.)
 use mathlib.Core.Path.{_≡_, refl}
-use mathlib.Core.List.{List, [], _∷_, _++_}
+use mathlib.Core.List.{List, [], _∷_, _++_, map}
 use Prim.Native.Nat.{ℕ}
 use Rattle.octets.specs.Octets.{byte, le16, le32, zeros, checksum, write}
-use Rattle.ibft_table.specs.Readings.{targetIn, addressKindOf, structureOf, initiatorOf, nicOf, targetOf, entryOf, viewOf}
+use Rattle.ibft_table.specs.Readings.{targetIn, addressKindOf, addressNumber, structureOf, initiatorOf, nicOf, targetOf, entryOf, viewOf}
 use Rattle.ibft_table.specs.Login.{loginOrderOf}
 use Rattle.ibft_table.specs.Computing.{computing}
 use Rattle.ibft_table.specs.declared.address.AddressKind.the-variants.{Absent, Ipv4Mapped, Other}
@@ -23,10 +23,16 @@ unfolding computing example mapped
 example-last = refl
 
 -- all zeros; the example; ::ffff:0.0.0.0; one FF short; fe80::
-address-kinds : addressKindOf (zeros 16) ∷ addressKindOf example ∷ addressKindOf (mapped (zeros 4)) ∷ addressKindOf (zeros 10 ++ (0xFF ∷ zeros 5)) ∷ addressKindOf (0xFE ∷ 0x80 ∷ zeros 14) ∷ []
-    ≡ Absent ∷ Ipv4Mapped ∷ Ipv4Mapped ∷ Other ∷ Other ∷ []
-unfolding computing example mapped
+addresses : List (List ℕ)
+addresses = zeros 16 ∷ example ∷ mapped (zeros 4) ∷ (zeros 10 ++ (0xFF ∷ zeros 5)) ∷ (0xFE ∷ 0x80 ∷ zeros 14) ∷ []
+
+address-kinds : map addressKindOf addresses ≡ Absent ∷ Ipv4Mapped ∷ Ipv4Mapped ∷ Other ∷ Other ∷ []
+unfolding computing addresses example mapped
 address-kinds = refl
+
+address-numbers : map (λ (a : List ℕ). addressNumber (addressKindOf a)) addresses ≡ 0 ∷ 1 ∷ 1 ∷ 2 ∷ 2 ∷ []
+unfolding computing addresses example mapped
+address-numbers = refl
 
 -- ---- a table of two targets, at 72 and 128, in this mode and with these flags
 

@@ -89,6 +89,12 @@ addressKindOf a =
     cond (allZero a) Absent
     (cond (allZero (part a 0 10) && (eqb (byte a 10) 0xFF && eqb (byte a 11) 0xFF)) Ipv4Mapped Other)
 
+-- the number of each kind
+abbrev pub addressNumber : AddressKind → ℕ
+addressNumber Absent = 0
+addressNumber Ipv4Mapped = 1
+addressNumber Other = 2
+
 -- the PCI word is bus x 256 + device x 8 + function
 unfoldable pub pciOf : ℕ → Pci
 pciOf word = record { bus = word / 256; device = word / 8 % 32; function = word % 8 }
