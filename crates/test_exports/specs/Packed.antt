@@ -7,8 +7,6 @@ use Rattle.ibft_table.specs.declared.verdict.Refusal.{Refusal}
 use Rattle.ibft_table.specs.declared.structure.StructureReading.{StructureReading}
 use Rattle.ibft_table.specs.declared.entry.EntryReading.{EntryReading}
 use Rattle.ibft_table.specs.declared.login.LoginOrder.{LoginOrder}
-use Rattle.ibft_table.specs.declared.address.AddressKind.{AddressKind}
-use Rattle.ibft_table.specs.declared.address.AddressKind.the-variants.{Absent, Ipv4Mapped, Other}
 use Rattle.ibft_table.specs.declared.pci.Pci.{Pci}
 
 abbrev pub packedRefusal : Refusal → ℕ
@@ -25,11 +23,6 @@ packedOrder r = packedRefusal (r .refusal) + 2 ^ 32 * r .used + 2 ^ 40 * byte (r
 -- An entry's place has a number of its own: beside number and place of a refusal there is no room for both of its words.
 abbrev pub packedEntryPlace : EntryReading → ℕ
 packedEntryPlace r = r .offset + 2 ^ 16 * r .length
-
-abbrev pub packedAddressKind : AddressKind → ℕ
-packedAddressKind Absent = 0
-packedAddressKind Ipv4Mapped = 1
-packedAddressKind Other = 2
 
 abbrev pub packedPci : Pci → ℕ
 packedPci p = p .bus + 2 ^ 8 * p .device + 2 ^ 16 * p .function

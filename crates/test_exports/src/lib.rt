@@ -6,6 +6,7 @@ mod nic;
 mod packed;
 mod put;
 mod target;
+mod view;
 
 ghost use mathlib.Core.Path.{_≡_};
 ghost use Rattle.hostname.specs.Hostname.{isHostName};

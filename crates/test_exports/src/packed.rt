@@ -11,9 +11,9 @@ use octets::read::sixteen_at;
 ghost use mathlib.Core.Path.{_≡_};
 ghost use Prim.Native.Nat.{_<_, _^_};
 ghost use Rattle.octets.specs.Octets.{bytesAt};
-ghost use Rattle.ibft_table.specs.Readings.{structureOf, entryOf, addressKindOf, pciOf};
+ghost use Rattle.ibft_table.specs.Readings.{structureOf, entryOf, addressKindOf, addressNumber, pciOf};
 ghost use Rattle.ibft_table.specs.Login.{loginOrderOf};
-ghost use Rattle.test_exports.specs.Packed.{packedRefusal, packedStructure, packedOrder, packedEntryPlace, packedAddressKind, packedPci};
+ghost use Rattle.test_exports.specs.Packed.{packedRefusal, packedStructure, packedOrder, packedEntryPlace, packedPci};
 
 // Number and place of a refusal.
 pub(crate) fn packed_refusal(refusal: Refusal) -> u64
@@ -63,7 +63,7 @@ pub extern "C" fn test_login_order(t: &[u8]) -> u64
 // The kind of the address that the first sixteen bytes are.
 #[no_mangle]
 pub extern "C" fn test_address_kind(a: &[u8]) -> u64
-    ensures { λ r. ⌜ r ≡ packedAddressKind (addressKindOf (bytesAt (now (a .entry)) 0 16)) ⌝ }
+    ensures { λ r. ⌜ r ≡ addressNumber (addressKindOf (bytesAt (now (a .entry)) 0 16)) ⌝ }
 {
     match address_kind(sixteen_at(a, 0)) {
         AddressKind::Absent => 0,
