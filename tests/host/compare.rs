@@ -18,6 +18,7 @@ mod compare_readings;
 mod compare_scan;
 mod compare_show;
 mod compare_text;
+mod compare_views;
 mod field_maker;
 mod good_records;
 mod good_tables;
@@ -65,6 +66,7 @@ fn main() {
         && compare_checksum::compare()
         && compare_check::compare()
         && compare_readings::compare()
+        && compare_views::compare()
         && compare_login::compare()
         && compare_show::compare()
         && compare_text::compare()

@@ -189,16 +189,16 @@ fn compare_entry(input: &mut Input, entry: u8, counts: &mut Counts) -> bool {
     let expected = model::entry(input.table.bytes(), u64::from(entry));
     let (table, size) = input.table.lend();
     let answer = unsafe { library::test_entry(table, size, entry) };
-    let view = unsafe { library::test_entry_place(table, size, entry) };
+    let place_given = unsafe { library::test_entry_place(table, size, entry) };
     counts.count("entry", answer);
     let refusal = packed_result(&expected);
     let place = expected.unwrap_or_default();
     same("entry", entry, input, answer, refusal)
         && same(
-            "entry's view",
+            "entry's place",
             entry,
             input,
-            view,
+            place_given,
             place.offset | place.length << 16,
         )
 }

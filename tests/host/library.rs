@@ -7,6 +7,9 @@
 pub type Reading = unsafe extern "C" fn(*const u8, usize, *mut u8, usize) -> u64;
 pub type NumberedReading = unsafe extern "C" fn(*const u8, usize, u8, *mut u8, usize) -> u64;
 
+/// A copy of what a view shows: the table, the number, and the bytes for the copy; how many the view has.
+pub type View = unsafe extern "C" fn(*const u8, usize, u8, *mut u8, usize) -> usize;
+
 /// A build: record, strings and room.
 pub type Build = unsafe extern "C" fn(*const u8, usize, *const u8, usize, *mut u8, usize) -> u64;
 
@@ -28,6 +31,8 @@ extern "C" {
     pub fn test_structure(table: *const u8, size: usize, slot: u8) -> u64;
     pub fn test_entry(table: *const u8, size: usize, entry: u8) -> u64;
     pub fn test_entry_place(table: *const u8, size: usize, entry: u8) -> u64;
+    pub fn test_structure_view(table: *const u8, size: usize, slot: u8, out: *mut u8, out_size: usize) -> usize;
+    pub fn test_entry_view(table: *const u8, size: usize, entry: u8, out: *mut u8, out_size: usize) -> usize;
     pub fn test_login_order(table: *const u8, size: usize) -> u64;
     pub fn test_header(table: *const u8, size: usize, out: *mut u8, out_size: usize) -> u64;
     pub fn test_initiator(table: *const u8, size: usize, out: *mut u8, out_size: usize) -> u64;
