@@ -3,13 +3,15 @@
  * iSCSI Boot Firmware Table (iBFT) in low memory, checks it or builds one.
  *
  * docs/C-INTERFACE.md says how to link, what a caller has to keep and how an
- * answer is split. Offsets below count bytes from the start of the structure.
- * Numbers of more than one byte are little endian, as the table has them.
+ * answer is split. Offsets in comments count bytes from the start of the
+ * structure. Numbers of more than one byte are little endian, as the table has
+ * them.
  *
- * For GCC and Clang (C99 or later, C++). A target takes 54 bytes though it holds
- * a number of eight, and in a record the structures stand at odd offsets: they
- * are packed, by __attribute__((packed)). Do not take the address of a field
- * that is a number; copy the number.
+ * For GCC and Clang, from C99 and C++98 on, with or without a C library. A target
+ * takes 54 bytes though it holds a number of eight, and in a record the structures
+ * stand at odd offsets: they are packed, by __attribute__((packed)). Do not take
+ * the address of a field that is a number; copy the number. Read a table by
+ * copying a structure out of it, by memcpy, once the check has accepted it.
  */
 #ifndef BOOTFW_H
 #define BOOTFW_H
@@ -17,12 +19,19 @@
 #include <stddef.h>
 #include <stdint.h>
 
-#if !defined(__GNUC__)
+#if !defined(__GNUC__) && !defined(__clang__)
 #error "bootfw.h lays out its structures by __attribute__((packed)): use GCC or Clang"
 #endif
 #if __BYTE_ORDER__ != __ORDER_LITTLE_ENDIAN__
 #error "bootfw.h reads the table's little-endian numbers in place"
 #endif
+
+/* The version of what this header declares, for #if. MINOR rises where something
+ * is added; MAJOR where a program that was written for an earlier version may
+ * have to be changed, and MINOR is 0 then. */
+#define BOOTFW_VERSION_MAJOR 1
+#define BOOTFW_VERSION_MINOR 0
+#define BOOTFW_VERSION (BOOTFW_VERSION_MAJOR * 0x10000 + BOOTFW_VERSION_MINOR)
 
 /* A layout that differs from the published one must not compile. The array of
  * negative size says the same to compilers older than C11 and C++11. */
@@ -41,7 +50,70 @@
 extern "C" {
 #endif
 
-/* ---- The table's structures ------------------------------------------------ */
+/* ---- The table's numbers --------------------------------------------------- */
+
+/* The addresses a table may take up: from START up to, not including, END. */
+#define IBFT_WINDOW_START 0x80000u
+#define IBFT_WINDOW_END   0x100000u
+
+#define IBFT_SIGNATURE         "iBFT" /* a table begins with these four bytes */
+#define IBFT_TABLE_ALIGNMENT   16u    /* a scan looks at addresses that are multiples of it */
+#define IBFT_REVISION          1u
+#define IBFT_STRUCTURE_VERSION 1u
+#define IBFT_CONTROL_OFFSET    48u    /* where Control stands: behind the table's header */
+#define IBFT_FIRST_START       72u    /* no other structure starts below */
+#define IBFT_START_ALIGNMENT   8u     /* structures start at multiples of it */
+#define IBFT_LEAST_LENGTH      66u    /* header and Control: the check accepts none shorter */
+#define IBFT_LARGEST_LENGTH    3702u  /* ibft_build writes none longer */
+#define IBFT_LONGEST_NAME      223u   /* bytes of an initiator's or a target's name */
+#define IBFT_LONGEST_STRING    255u   /* bytes of any other string */
+#define IBFT_ISCSI_PORT        3260u  /* the TCP port that iSCSI targets mostly have */
+
+/* The kinds of structure, by the ID that each starts with. */
+enum ibft_structure_id {
+    IBFT_ID_CONTROL = 1,
+    IBFT_ID_INITIATOR = 2,
+    IBFT_ID_NIC = 3,
+    IBFT_ID_TARGET = 4
+};
+
+/* The places for structures, numbered as Control's words stand. */
+enum ibft_slot {
+    IBFT_SLOT_INITIATOR = 0,
+    IBFT_SLOT_NIC0 = 1,
+    IBFT_SLOT_TARGET0 = 2,
+    IBFT_SLOT_NIC1 = 3,
+    IBFT_SLOT_TARGET1 = 4
+};
+#define IBFT_SLOTS 5
+
+BOOTFW_ASSERT(slots, IBFT_SLOTS == IBFT_SLOT_TARGET1 + 1);
+
+/* The strings, numbered by slot and within it in the order of the fields. */
+enum ibft_entry_number {
+    IBFT_ENTRY_INITIATOR_NAME = 0,
+    IBFT_ENTRY_NIC0_HOST_NAME = 1,
+    IBFT_ENTRY_TARGET0_NAME = 2,
+    IBFT_ENTRY_TARGET0_CHAP_NAME = 3,
+    IBFT_ENTRY_TARGET0_CHAP_SECRET = 4,
+    IBFT_ENTRY_TARGET0_REVERSE_CHAP_NAME = 5,
+    IBFT_ENTRY_TARGET0_REVERSE_CHAP_SECRET = 6,
+    IBFT_ENTRY_NIC1_HOST_NAME = 7,
+    IBFT_ENTRY_TARGET1_NAME = 8,
+    IBFT_ENTRY_TARGET1_CHAP_NAME = 9,
+    IBFT_ENTRY_TARGET1_CHAP_SECRET = 10,
+    IBFT_ENTRY_TARGET1_REVERSE_CHAP_NAME = 11,
+    IBFT_ENTRY_TARGET1_REVERSE_CHAP_SECRET = 12
+};
+#define IBFT_ENTRIES 13
+
+BOOTFW_ASSERT(entries, IBFT_ENTRIES == IBFT_ENTRY_TARGET1_REVERSE_CHAP_SECRET + 1);
+
+enum ibft_chap_type {
+    IBFT_CHAP_TYPE_NONE = 0,
+    IBFT_CHAP_TYPE_CHAP = 1,
+    IBFT_CHAP_TYPE_MUTUAL = 2
+};
 
 /* Flag bits, by kind of structure. A bit that has no name is reserved: zero. */
 #define IBFT_CONTROL_SINGLE_LOGIN 0x01u
@@ -55,13 +127,35 @@ extern "C" {
 #define IBFT_TARGET_RADIUS_CHAP   0x04u
 #define IBFT_TARGET_RADIUS_RCHAP  0x08u
 
+/* ---- The table's structures ------------------------------------------------ */
+
+/* What a table begins with. */
+struct ibft_table_header {
+    uint8_t signature[4];    /* 0: IBFT_SIGNATURE */
+    uint32_t length;         /* 4: of the whole table, strings included */
+    uint8_t revision;        /* 8: IBFT_REVISION */
+    uint8_t checksum;        /* 9: all bytes of the table sum to 0 modulo 256 */
+    uint8_t oem_id[6];       /* 10: zero after the first zero byte */
+    uint8_t oem_table_id[8]; /* 16: zero after the first zero byte */
+    uint8_t reserved[24];    /* 24: written zero, not looked at */
+} __attribute__((packed));
+
+BOOTFW_SIZE(ibft_table_header, IBFT_CONTROL_OFFSET);
+BOOTFW_FIELD(ibft_table_header, signature, 0);
+BOOTFW_FIELD(ibft_table_header, length, 4);
+BOOTFW_FIELD(ibft_table_header, revision, 8);
+BOOTFW_FIELD(ibft_table_header, checksum, 9);
+BOOTFW_FIELD(ibft_table_header, oem_id, 10);
+BOOTFW_FIELD(ibft_table_header, oem_table_id, 16);
+BOOTFW_FIELD(ibft_table_header, reserved, 24);
+
 /* The six bytes that every structure starts with. */
 struct ibft_structure_header {
-    uint8_t id;       /* 0: 2 initiator, 3 NIC, 4 target */
-    uint8_t version;  /* 1: 1 */
-    uint16_t length;  /* 2: 74 initiator, 102 NIC, 54 target */
-    uint8_t index;    /* 4: 0 initiator, n for NIC n and Target n */
-    uint8_t flags;    /* 5 */
+    uint8_t id;      /* 0: enum ibft_structure_id */
+    uint8_t version; /* 1: IBFT_STRUCTURE_VERSION */
+    uint16_t length; /* 2: sizeof the structure: Control 18, initiator 74, NIC 102, target 54 */
+    uint8_t index;   /* 4: n for NIC n and Target n, else 0 */
+    uint8_t flags;   /* 5 */
 } __attribute__((packed));
 
 BOOTFW_SIZE(ibft_structure_header, 6);
@@ -70,6 +164,20 @@ BOOTFW_FIELD(ibft_structure_header, version, 1);
 BOOTFW_FIELD(ibft_structure_header, length, 2);
 BOOTFW_FIELD(ibft_structure_header, index, 4);
 BOOTFW_FIELD(ibft_structure_header, flags, 5);
+
+/* At IBFT_CONTROL_OFFSET of every table. */
+struct ibft_control {
+    struct ibft_structure_header header; /* 0 */
+    uint16_t extensions;                 /* 6: 0, or the check refuses the table */
+    uint16_t slot_offset[IBFT_SLOTS];    /* 8: where each structure starts; 0 if absent */
+} __attribute__((packed));
+
+BOOTFW_SIZE(ibft_control, 18);
+BOOTFW_FIELD(ibft_control, header, 0);
+BOOTFW_FIELD(ibft_control, extensions, 6);
+BOOTFW_FIELD(ibft_control, slot_offset, 8);
+BOOTFW_ASSERT(least_length, sizeof(struct ibft_table_header) + sizeof(struct ibft_control)
+                                == IBFT_LEAST_LENGTH);
 
 /* Where a string stands. In a table `offset` counts from the table's first
  * byte; length 0 with offset 0 is a missing string, length 0 with another
@@ -88,13 +196,20 @@ BOOTFW_FIELD(ibft_entry, offset, 2);
  * bytes of the address; or absent, all zero. */
 typedef uint8_t ibft_ip_address[16];
 
+/* An IPv4 address as an initialiser, and where its four bytes stand in it. */
+#define IBFT_IPV4(a, b, c, d) { 0, 0, 0, 0, 0, 0, 0, 0, 0, 0, 0xFF, 0xFF, a, b, c, d }
+#define IBFT_IPV4_OFFSET 12u
+
+/* The PCI word of a NIC: bus below 256, device below 32, function below 8. */
+#define IBFT_PCI(bus, device, function) ((uint16_t)((bus) * 256u + (device) * 8u + (function)))
+
 struct ibft_initiator {
     struct ibft_structure_header header;     /* 0 */
     ibft_ip_address isns_server;             /* 6 */
     ibft_ip_address slp_server;              /* 22 */
     ibft_ip_address primary_radius_server;   /* 38 */
     ibft_ip_address secondary_radius_server; /* 54 */
-    struct ibft_entry name;                  /* 70: at most 223 bytes */
+    struct ibft_entry name;                  /* 70: at most IBFT_LONGEST_NAME bytes */
 } __attribute__((packed));
 
 BOOTFW_SIZE(ibft_initiator, 74);
@@ -116,8 +231,8 @@ struct ibft_nic {
     ibft_ip_address dhcp;                /* 72 */
     uint16_t vlan;                       /* 88 */
     uint8_t mac_address[6];              /* 90 */
-    uint16_t pci_bus_dev_func;           /* 96: bus x 256 + device x 8 + function */
-    struct ibft_entry host_name;         /* 98: at most 255 bytes */
+    uint16_t pci_bus_dev_func;           /* 96: IBFT_PCI */
+    struct ibft_entry host_name;         /* 98: at most IBFT_LONGEST_STRING bytes */
 } __attribute__((packed));
 
 BOOTFW_SIZE(ibft_nic, 102);
@@ -137,12 +252,12 @@ BOOTFW_FIELD(ibft_nic, host_name, 98);
 struct ibft_target {
     struct ibft_structure_header header;   /* 0 */
     ibft_ip_address ip_address;            /* 6 */
-    uint16_t ip_socket;                    /* 22: the TCP port, mostly 3260 */
+    uint16_t ip_socket;                    /* 22: the TCP port, mostly IBFT_ISCSI_PORT */
     uint64_t boot_lun;                     /* 24 */
-    uint8_t chap_type;                     /* 32: 0 none, 1 CHAP, 2 mutual CHAP */
+    uint8_t chap_type;                     /* 32: enum ibft_chap_type */
     uint8_t nic_association;               /* 33: Index of the NIC to log in by */
-    struct ibft_entry name;                /* 34: at most 223 bytes */
-    struct ibft_entry chap_name;           /* 38: at most 255 bytes, as those below */
+    struct ibft_entry name;                /* 34: at most IBFT_LONGEST_NAME bytes */
+    struct ibft_entry chap_name;           /* 38: at most IBFT_LONGEST_STRING bytes, as below */
     struct ibft_entry chap_secret;         /* 42 */
     struct ibft_entry reverse_chap_name;   /* 46 */
     struct ibft_entry reverse_chap_secret; /* 50 */
@@ -163,12 +278,9 @@ BOOTFW_FIELD(ibft_target, reverse_chap_secret, 50);
 
 /* ---- The record ------------------------------------------------------------ */
 
-/* Slots are numbered as Control's words stand: initiator, NIC 0, Target 0,
- * NIC 1, Target 1. Entries: 0 initiator name, 1 host name of NIC 0, 2 to 6 the
- * strings of Target 0 in the order of its fields, 7 and 8 to 12 those of NIC 1
- * and Target 1. */
-#define IBFT_SLOTS 5
-#define IBFT_ENTRIES 13
+/* Presence marks of a record. Any other is refused. */
+#define IBFT_ABSENT  0u
+#define IBFT_PRESENT 1u
 
 /* What a table is built from, beside the strings. A structure's image has the
  * layout it has in a table; of its header only the flags are looked at, and
@@ -177,8 +289,8 @@ struct ibft_record {
     uint8_t oem_id[6];                   /* 0: zero after the first zero byte */
     uint8_t oem_table_id[8];             /* 6: zero after the first zero byte */
     uint8_t control_flags;               /* 14 */
-    uint8_t slot_present[IBFT_SLOTS];    /* 15: 0 absent, 1 present */
-    uint8_t entry_present[IBFT_ENTRIES]; /* 20: 0 missing, 1 present */
+    uint8_t slot_present[IBFT_SLOTS];    /* 15: marks, by enum ibft_slot */
+    uint8_t entry_present[IBFT_ENTRIES]; /* 20: marks, by enum ibft_entry_number */
     struct ibft_initiator initiator;     /* 33 */
     struct ibft_nic nic0;                /* 107 */
     struct ibft_target target0;          /* 209 */
@@ -200,10 +312,11 @@ BOOTFW_FIELD(ibft_record, target1, 365);
 
 /* ---- Answers --------------------------------------------------------------- */
 
-/* The number of an answer: 0, or why the call refused. A scan gives 1 and 2
- * only; the rest belong to the check, the readings and the build. */
-enum ibft_number {
-    IBFT_ACCEPTED = 0,
+/* The number of an answer: 0, or why the call refused. A scan gives 1 and 2, a
+ * check 3 to 19, a build 8, 10, 17 to 21, 24 and 25. The numbers 22 and 23 belong
+ * to readings, which C makes through the structures: no call here gives them. */
+enum ibft_refusal {
+    IBFT_ACCEPTED = 0,               /* no refusal */
     IBFT_REFUSED_PAST_WINDOW = 1,    /* scan: address + size above 0x100000 */
     IBFT_REFUSED_NO_TABLE = 2,       /* scan: no sound table in the lent bytes */
     IBFT_REFUSED_FEW_BYTES = 3,      /* fewer than 48 bytes lent */
@@ -231,13 +344,52 @@ enum ibft_number {
     IBFT_REFUSED_RECORD = 25         /* build: record of another size, or a mark not 0 or 1 */
 };
 
-/* The parts of an answer: bits 0-7, 8-31 and 32-63. */
+/* In a build, the place of IBFT_REFUSED_FLAGS where the flags are Control's. */
+#define IBFT_PLACE_CONTROL 255u
+
+/* A number in words, on one line; one text for all numbers that have no name. */
+static inline const char *ibft_refusal_text(unsigned number)
+{
+    switch (number) {
+    case IBFT_ACCEPTED:              return "accepted";
+    case IBFT_REFUSED_PAST_WINDOW:   return "the memory reaches above 0x100000";
+    case IBFT_REFUSED_NO_TABLE:      return "no sound table in the memory";
+    case IBFT_REFUSED_FEW_BYTES:     return "fewer than 48 bytes: no whole header";
+    case IBFT_REFUSED_SIGNATURE:     return "the signature is not iBFT";
+    case IBFT_REFUSED_LENGTH:        return "Length is under 66 or above the bytes lent";
+    case IBFT_REFUSED_SUM:           return "the table's bytes do not sum to 0 modulo 256";
+    case IBFT_REFUSED_REVISION:      return "Revision is not 1";
+    case IBFT_REFUSED_OEM_TAIL:      return "an OEM field goes on after a zero byte";
+    case IBFT_REFUSED_CONTROL:       return "Control's ID, version, length or Index is wrong";
+    case IBFT_REFUSED_FLAGS:         return "a reserved flag bit is set";
+    case IBFT_REFUSED_EXTENSIONS:    return "the Extensions word is not 0";
+    case IBFT_REFUSED_START:         return "a structure is misaligned, below 72 or past Length";
+    case IBFT_REFUSED_STRUCTURE:     return "a structure's ID, version, length or Index is wrong";
+    case IBFT_REFUSED_OVERLAP:       return "two structures share a byte";
+    case IBFT_REFUSED_ENTRY_PLACE:   return "a string is not in the heap, or has no offset";
+    case IBFT_REFUSED_ENTRY_END:     return "no zero byte follows a string within Length";
+    case IBFT_REFUSED_ENTRY_LONG:    return "a string is too long";
+    case IBFT_REFUSED_HOST_NAME:     return "a host name is not of the form";
+    case IBFT_REFUSED_CHAP_TYPE:     return "a CHAP type is above 2";
+    case IBFT_REFUSED_ENTRY_ZERO:    return "a string to build holds a zero byte";
+    case IBFT_REFUSED_ROOM:          return "the record's shortest table exceeds the room";
+    case IBFT_REFUSED_MISSING:       return "the structure or string is missing";
+    case IBFT_REFUSED_NO_SUCH:       return "there is no such slot or entry";
+    case IBFT_REFUSED_ENTRY_OUTSIDE: return "a string ends past the range lent for strings";
+    case IBFT_REFUSED_RECORD:        return "the record's size or a presence mark is wrong";
+    default:                         return "no refusal has this number";
+    }
+}
+
+/* The parts of an answer: bits 0-7, 8-31 and 32-63. Of every call: an enum
+ * ibft_refusal. */
 static inline uint8_t ibft_answer_number(uint64_t answer)
 {
     return (uint8_t)(answer & 0xFFu);
 }
 
-/* Of a scan: the address of the table's first byte; 0 when refused. */
+/* Of a scan: the address of the table's first byte; 0 when refused. A scan's
+ * place is always 0 and takes no bits. */
 static inline uint32_t ibft_answer_address(uint64_t answer)
 {
     return (uint32_t)(answer >> 8) & 0xFFFFFFu;
@@ -260,19 +412,23 @@ static inline uint32_t ibft_answer_length(uint64_t answer)
 /* Sizes are passed as 64-bit numbers: the library is compiled for x86-64. */
 BOOTFW_ASSERT(size_t_is_64_bits, sizeof(size_t) == 8);
 
-/* The addresses a table may take up: from START up to, not including, END. */
-#define IBFT_WINDOW_START 0x80000u
-#define IBFT_WINDOW_END   0x100000u
+/* The library is called by the System V convention, also from code for which the
+ * compiler follows another one, as it does for UEFI. */
+#if defined(__x86_64__)
+#define BOOTFW_CALL __attribute__((sysv_abi))
+#else
+#define BOOTFW_CALL
+#endif
 
 /* Looks for the lowest sound table in the lent bytes, the first of which has
  * the given address. Answers 0 with its address and Length; or 1 or 2 with
  * address and Length 0. Writes nothing. */
-uint64_t ibft_scan(const uint8_t *memory, size_t memory_size, uint64_t address);
+uint64_t ibft_scan(const uint8_t *memory, size_t memory_size, uint64_t address) BOOTFW_CALL;
 
 /* Checks the table that starts with the first of the lent bytes; more may be
  * lent than its Length. Answers 0 with place 0; or the first of 3 to 19 that
  * applies, with its place. Bits 32-63 are 0. Writes nothing. */
-uint64_t ibft_check(const uint8_t *table, size_t table_size);
+uint64_t ibft_check(const uint8_t *table, size_t table_size) BOOTFW_CALL;
 
 /* Builds the shortest table of a record into the room. The record is one struct
  * ibft_record; its strings stand in the range lent for them. The room shares no
@@ -282,7 +438,7 @@ uint64_t ibft_check(const uint8_t *table, size_t table_size);
  * writes nothing. */
 uint64_t ibft_build(const uint8_t *record, size_t record_size,
                     const uint8_t *strings, size_t strings_size,
-                    uint8_t *room, size_t room_size);
+                    uint8_t *room, size_t room_size) BOOTFW_CALL;
 
 #ifdef __cplusplus
 }

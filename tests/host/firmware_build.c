@@ -16,27 +16,28 @@ static uint32_t build_ibft(const char *name, const char *reverse_name, uint8_t *
                            size_t room_size)
 {
     struct ibft_record record = { 0 };
-    uint8_t strings[2 * 255];
+    uint8_t strings[2 * IBFT_LONGEST_STRING];
     size_t size = strlen(name), reverse_size = strlen(reverse_name);
     uint64_t answer;
 
-    if (size > 255 || reverse_size > 255)
+    if (size > IBFT_LONGEST_STRING || reverse_size > IBFT_LONGEST_STRING)
         return 0;
     memcpy(strings, name, size);
     memcpy(strings + size, reverse_name, reverse_size);
-    record.slot_present[2] = 1;
+    record.slot_present[IBFT_SLOT_TARGET0] = IBFT_PRESENT;
     record.target0.header.flags = IBFT_TARGET_VALID;
-    record.entry_present[3] = 1;
+    record.entry_present[IBFT_ENTRY_TARGET0_CHAP_NAME] = IBFT_PRESENT;
     record.target0.chap_name.length = (uint16_t)size;
     record.target0.chap_name.offset = 0;
-    record.entry_present[5] = 1;
+    record.entry_present[IBFT_ENTRY_TARGET0_REVERSE_CHAP_NAME] = IBFT_PRESENT;
     record.target0.reverse_chap_name.length = (uint16_t)reverse_size;
     record.target0.reverse_chap_name.offset = (uint16_t)size;
     answer = ibft_build((const uint8_t *)&record, sizeof record, strings, size + reverse_size,
                         room, room_size);
     if (ibft_answer_number(answer) != IBFT_ACCEPTED)
-        printf("iBFT not built: refused %u %u\n", (unsigned)ibft_answer_number(answer),
-               (unsigned)ibft_answer_place(answer));
+        printf("iBFT not built: refused %u %u: %s\n", (unsigned)ibft_answer_number(answer),
+               (unsigned)ibft_answer_place(answer),
+               ibft_refusal_text(ibft_answer_number(answer)));
     return ibft_answer_length(answer);
 }
 /* end of example */
@@ -118,7 +119,7 @@ static void reads_back(void)
 }
 
 static void expect_refused(const char *what, const struct ibft_record *record, size_t record_size,
-                           enum ibft_number number, uint32_t place)
+                           enum ibft_refusal number, uint32_t place)
 {
     static const uint8_t strings[] = "a.b.\0depot7";
     uint64_t answer;

@@ -18,8 +18,8 @@ static bool accept_ibft(const uint8_t *table, size_t table_size)
 
     if (ibft_answer_number(answer) == IBFT_ACCEPTED)
         return true;
-    printf("iBFT refused %u %u\n", (unsigned)ibft_answer_number(answer),
-           (unsigned)ibft_answer_place(answer));
+    printf("iBFT refused %u %u: %s\n", (unsigned)ibft_answer_number(answer),
+           (unsigned)ibft_answer_place(answer), ibft_refusal_text(ibft_answer_number(answer)));
     return false;
 }
 /* end of example */
@@ -98,7 +98,7 @@ static void lay_table(void)
 
 /* Lays the table with one byte changed and its sum mended, and checks it. */
 static void expect_refused(const char *what, size_t at, uint8_t byte,
-                           enum ibft_number number, uint32_t place)
+                           enum ibft_refusal number, uint32_t place)
 {
     uint64_t answer;
 

@@ -89,7 +89,7 @@ static uint8_t *lay_table(uint64_t address)
     return table;
 }
 
-static void expect_refused(const char *what, uint64_t answer, enum ibft_number number)
+static void expect_refused(const char *what, uint64_t answer, enum ibft_refusal number)
 {
     printf("firmware_scan: %s: refused %u\n", what, (unsigned)ibft_answer_number(answer));
     expect(ibft_answer_number(answer) == number, what);

@@ -32,15 +32,12 @@ enum {
 /* The largest table: every structure in the order of a build, and each string as
  * long as it may be. */
 enum {
-    INITIATOR = 72,
+    INITIATOR = IBFT_FIRST_START,
     NIC0 = 152,
     NIC1 = 256,
     TARGET0 = 360,
     TARGET1 = 416,
     HEAP = TARGET1 + sizeof(struct ibft_target),
-    LARGEST_LENGTH = 3702,
-    LONGEST_NAME = 223,
-    LONGEST_OTHER = 255,
 };
 
 static uint8_t stack[STACK_SIZE] __attribute__((aligned(4096)));
@@ -220,9 +217,9 @@ static void lay_entry(size_t field, uint16_t length, uint16_t *offset)
 static void lay_target(size_t start, uint8_t index, uint16_t *offset)
 {
     lay_structure(start, 4, sizeof(struct ibft_target), index);
-    lay_entry(start + 34, LONGEST_NAME, offset);
+    lay_entry(start + 34, IBFT_LONGEST_NAME, offset);
     for (size_t at = 38; at <= 50; at += 4)
-        lay_entry(start + at, LONGEST_OTHER, offset);
+        lay_entry(start + at, IBFT_LONGEST_STRING, offset);
 }
 
 /* Sets the checksum byte of the largest table. */
@@ -230,7 +227,7 @@ static void mend_sum(void)
 {
     uint8_t sum = 0;
 
-    for (size_t i = 0; i < LARGEST_LENGTH; i++)
+    for (size_t i = 0; i < IBFT_LARGEST_LENGTH; i++)
         sum = (uint8_t)(sum + memory[i]);
     memory[9] = (uint8_t)(memory[9] - sum);
 }
@@ -240,13 +237,13 @@ static void lay_largest_table(void)
 {
     uint16_t offset = HEAP;
 
-    lay_header(LARGEST_LENGTH);
+    lay_header(IBFT_LARGEST_LENGTH);
     lay_structure(INITIATOR, 2, sizeof(struct ibft_initiator), 0);
     lay_structure(NIC0, 3, sizeof(struct ibft_nic), 0);
     lay_structure(NIC1, 3, sizeof(struct ibft_nic), 1);
-    lay_entry(INITIATOR + 70, LONGEST_NAME, &offset);
-    lay_entry(NIC0 + 98, LONGEST_OTHER, &offset);
-    lay_entry(NIC1 + 98, LONGEST_OTHER, &offset);
+    lay_entry(INITIATOR + 70, IBFT_LONGEST_NAME, &offset);
+    lay_entry(NIC0 + 98, IBFT_LONGEST_STRING, &offset);
+    lay_entry(NIC1 + 98, IBFT_LONGEST_STRING, &offset);
     lay_target(TARGET0, 0, &offset);
     lay_target(TARGET1, 1, &offset);
     mend_sum();
@@ -259,26 +256,26 @@ static uint64_t refused(uint64_t number, uint64_t place)
 
 static void measure_checks(void)
 {
-    size_t last_letter = HEAP + LONGEST_NAME + 1 + 2 * LONGEST_OTHER;
+    size_t last_letter = HEAP + IBFT_LONGEST_NAME + 1 + 2 * IBFT_LONGEST_STRING;
 
     measure_check("check, nothing lent", 0, IBFT_REFUSED_FEW_BYTES);
     lay_largest_table();
-    measure_check("check, largest table, host names with 127 dots", LARGEST_LENGTH, 0);
+    measure_check("check, largest table, host names with 127 dots", IBFT_LARGEST_LENGTH, 0);
     measure_check("check, more bytes lent", WINDOW_SIZE, 0);
     memory[last_letter] = ' ';
-    measure_check("check, wrong sum", LARGEST_LENGTH, refused(IBFT_REFUSED_SUM, 9));
+    measure_check("check, wrong sum", IBFT_LARGEST_LENGTH, refused(IBFT_REFUSED_SUM, 9));
     mend_sum();
-    measure_check("check, refused at the last letter of a host name", LARGEST_LENGTH,
+    measure_check("check, refused at the last letter of a host name", IBFT_LARGEST_LENGTH,
                   refused(IBFT_REFUSED_HOST_NAME, NIC1 + 98));
     lay_largest_table();
-    memory[LARGEST_LENGTH - 1] = 'a';
+    memory[IBFT_LARGEST_LENGTH - 1] = 'a';
     mend_sum();
-    measure_check("check, refused at the last byte", LARGEST_LENGTH,
+    measure_check("check, refused at the last byte", IBFT_LARGEST_LENGTH,
                   refused(IBFT_REFUSED_ENTRY_END, TARGET1 + 50));
     memory[62] = NIC0;
     memory[63] = 0;
     mend_sum();
-    measure_check("check, refused at a structure", LARGEST_LENGTH,
+    measure_check("check, refused at a structure", IBFT_LARGEST_LENGTH,
                   refused(IBFT_REFUSED_STRUCTURE, NIC0));
 }
 

@@ -10,19 +10,14 @@
 
 enum {
     BUILD_LIMIT = 4096,
-    LARGEST_LENGTH = 3702,
     HEAP = 470,
-    LONGEST_NAME = 223,
-    LONGEST_OTHER = 255,
-    FIRST_HOST_NAME = 1,
-    LAST_HOST_NAME = 7,
     LAST_ENTRY = IBFT_ENTRIES - 1,
 };
 
 static struct ibft_record record;
-static uint8_t strings[IBFT_ENTRIES * LONGEST_OTHER];
+static uint8_t strings[IBFT_ENTRIES * IBFT_LONGEST_STRING];
 static size_t strings_size;
-static uint8_t room[LARGEST_LENGTH];
+static uint8_t room[IBFT_LARGEST_LENGTH];
 static size_t room_size;
 
 /* The record is what the call is lent; strings and room are above. */
@@ -48,27 +43,28 @@ static struct ibft_entry *entry_of_target(struct ibft_target *target, size_t n)
 /* The words of an entry. */
 static struct ibft_entry *entry(size_t number)
 {
-    if (number == 0)
+    if (number == IBFT_ENTRY_INITIATOR_NAME)
         return &record.initiator.name;
-    if (number == FIRST_HOST_NAME)
+    if (number == IBFT_ENTRY_NIC0_HOST_NAME)
         return &record.nic0.host_name;
-    if (number == LAST_HOST_NAME)
+    if (number == IBFT_ENTRY_NIC1_HOST_NAME)
         return &record.nic1.host_name;
-    if (number < LAST_HOST_NAME)
-        return entry_of_target(&record.target0, number - 2);
-    return entry_of_target(&record.target1, number - 8);
+    if (number < IBFT_ENTRY_NIC1_HOST_NAME)
+        return entry_of_target(&record.target0, number - IBFT_ENTRY_TARGET0_NAME);
+    return entry_of_target(&record.target1, number - IBFT_ENTRY_TARGET1_NAME);
 }
 
 static uint16_t longest(size_t number)
 {
-    return number == 0 || number == 2 || number == 8 ? LONGEST_NAME : LONGEST_OTHER;
+    return number == IBFT_ENTRY_INITIATOR_NAME || number == IBFT_ENTRY_TARGET0_NAME
+            || number == IBFT_ENTRY_TARGET1_NAME ? IBFT_LONGEST_NAME : IBFT_LONGEST_STRING;
 }
 
 /* All five structures; nothing said of strings yet. */
 static void give_structures(void)
 {
     memset(&record, 0, sizeof record);
-    memset(record.slot_present, 1, sizeof record.slot_present);
+    memset(record.slot_present, IBFT_PRESENT, sizeof record.slot_present);
     strings_size = 0;
     room_size = sizeof room;
 }
@@ -81,7 +77,7 @@ static void give_entry(size_t number, uint16_t length, uint8_t first)
     for (size_t i = 0; i < length; i++)
         text[i] = i % 2 == 0 ? 'a' : '.';
     text[0] = first;
-    record.entry_present[number] = 1;
+    record.entry_present[number] = IBFT_PRESENT;
     entry(number)->length = length;
     entry(number)->offset = (uint16_t)strings_size;
     strings_size += length;
@@ -123,17 +119,17 @@ void measure_builds(void)
     measure_build("build, thirteen tails", sizeof record, built(HEAP + 2 * LAST_ENTRY + 2));
     give_worst_record();
     measure_build("build, worst record, host names with 127 dots", sizeof record,
-                  built(LARGEST_LENGTH));
-    room_size = LARGEST_LENGTH - 1;
+                  built(IBFT_LARGEST_LENGTH));
+    room_size = IBFT_LARGEST_LENGTH - 1;
     measure_build("build, one byte of room too few", sizeof record, IBFT_REFUSED_ROOM);
     strings_size--;
     measure_build("build, last string past the range", sizeof record,
                   refused(IBFT_REFUSED_ENTRY_OUTSIDE, LAST_ENTRY));
     give_worst_record();
-    strings[entry(LAST_HOST_NAME)->offset + LONGEST_OTHER - 1] = ' ';
+    strings[entry(IBFT_ENTRY_NIC1_HOST_NAME)->offset + IBFT_LONGEST_STRING - 1] = ' ';
     measure_build("build, refused at the last letter of a host name", sizeof record,
-                  refused(IBFT_REFUSED_HOST_NAME, LAST_HOST_NAME));
-    record.target1.chap_type = 3;
+                  refused(IBFT_REFUSED_HOST_NAME, IBFT_ENTRY_NIC1_HOST_NAME));
+    record.target1.chap_type = IBFT_CHAP_TYPE_MUTUAL + 1;
     measure_build("build, refused at a structure", sizeof record,
-                  refused(IBFT_REFUSED_CHAP_TYPE, 4));
+                  refused(IBFT_REFUSED_CHAP_TYPE, IBFT_SLOT_TARGET1));
 }
