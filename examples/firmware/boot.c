@@ -32,33 +32,41 @@ static const struct strings {
 #define STRING(field) \
     { .length = sizeof strings.field - 1, .offset = offsetof(struct strings, field) }
 
-#define IPV4(a, b, c, d) { 0, 0, 0, 0, 0, 0, 0, 0, 0, 0, 0xFF, 0xFF, a, b, c, d }
-
-/* An initiator, NIC 0 and Target 0; entries 0 to 4 are the strings above. What
- * is not named is zero: absent, missing, or not looked at. */
+/* An initiator, NIC 0 and Target 0, with the strings above. What is not named is
+ * zero: absent, missing, or not looked at. */
 static const struct ibft_record record = {
     .oem_id = "DEPOT",
     .oem_table_id = "EXAMPLE",
-    .slot_present = { 1, 1, 1 },
-    .entry_present = { 1, 1, 1, 1, 1 },
+    .slot_present = {
+        [IBFT_SLOT_INITIATOR] = IBFT_PRESENT,
+        [IBFT_SLOT_NIC0] = IBFT_PRESENT,
+        [IBFT_SLOT_TARGET0] = IBFT_PRESENT,
+    },
+    .entry_present = {
+        [IBFT_ENTRY_INITIATOR_NAME] = IBFT_PRESENT,
+        [IBFT_ENTRY_NIC0_HOST_NAME] = IBFT_PRESENT,
+        [IBFT_ENTRY_TARGET0_NAME] = IBFT_PRESENT,
+        [IBFT_ENTRY_TARGET0_CHAP_NAME] = IBFT_PRESENT,
+        [IBFT_ENTRY_TARGET0_CHAP_SECRET] = IBFT_PRESENT,
+    },
     .initiator = {
         .header = { .flags = IBFT_INITIATOR_VALID | IBFT_INITIATOR_SELECTED },
         .name = STRING(initiator_name),
     },
     .nic0 = {
         .header = { .flags = IBFT_NIC_VALID | IBFT_NIC_SELECTED },
-        .ip_address = IPV4(10, 0, 2, 15),
+        .ip_address = IBFT_IPV4(10, 0, 2, 15),
         .subnet_mask_prefix = 24,
-        .gateway = IPV4(10, 0, 2, 2),
+        .gateway = IBFT_IPV4(10, 0, 2, 2),
         .mac_address = { 0x52, 0x54, 0x00, 0x12, 0x34, 0x56 },
-        .pci_bus_dev_func = 0 * 256 + 3 * 8 + 0,
+        .pci_bus_dev_func = IBFT_PCI(0, 3, 0),
         .host_name = STRING(host_name),
     },
     .target0 = {
         .header = { .flags = IBFT_TARGET_VALID | IBFT_TARGET_SELECTED },
-        .ip_address = IPV4(10, 0, 2, 2),
-        .ip_socket = 3260,
-        .chap_type = 1,
+        .ip_address = IBFT_IPV4(10, 0, 2, 2),
+        .ip_socket = IBFT_ISCSI_PORT,
+        .chap_type = IBFT_CHAP_TYPE_CHAP,
         .nic_association = 0,
         .name = STRING(target_name),
         .chap_name = STRING(chap_name),
@@ -106,7 +114,7 @@ static bool room_is_usable(const struct boot_machine *machine)
 {
     uint64_t room = machine->room_address, memory = machine->memory_address;
 
-    return room % 16 == 0
+    return room % IBFT_TABLE_ALIGNMENT == 0
         && room >= IBFT_WINDOW_START && room <= CONVENTIONAL_END
         && machine->room_size <= CONVENTIONAL_END - room
         && room >= memory && room - memory <= machine->memory_size
@@ -149,18 +157,12 @@ static enum boot_status check_table(struct boot_machine *machine)
 
 /* ---- Reading a table that the check accepted -------------------------------- */
 
-/* Offsets in a table: Control's flags, and the words that say where the
- * structures start, two bytes for each slot. */
-enum { CONTROL_FLAGS = 53, CONTROL_WORDS = 56 };
-
-enum { INITIATOR_SLOT = 0, TARGET_0_SLOT = 2, TARGET_1_SLOT = 4 };
-
-/* Where the structure of a slot starts; 0 if it is absent. */
-static uint16_t start_of(const uint8_t *table, unsigned slot)
+static struct ibft_control control_of(const uint8_t *table)
 {
-    const uint8_t *word = table + CONTROL_WORDS + 2 * slot;
+    struct ibft_control control;
 
-    return (uint16_t)(word[0] | word[1] << 8);
+    memcpy(&control, table + IBFT_CONTROL_OFFSET, sizeof control);
+    return control;
 }
 
 /* Whether the structure at this start is there with all of these flags. */
@@ -172,23 +174,25 @@ static bool has_flags(const uint8_t *table, uint16_t start, uint8_t flags)
 }
 
 /* Where the lowest target with all of these flags starts; 0 if none has them. */
-static uint16_t target_with(const uint8_t *table, uint8_t flags)
+static uint16_t target_with(const uint8_t *table, const struct ibft_control *control,
+                            uint8_t flags)
 {
-    for (unsigned slot = TARGET_0_SLOT; slot <= TARGET_1_SLOT; slot += 2)
-        if (has_flags(table, start_of(table, slot), flags))
-            return start_of(table, slot);
+    if (has_flags(table, control->slot_offset[IBFT_SLOT_TARGET0], flags))
+        return control->slot_offset[IBFT_SLOT_TARGET0];
+    if (has_flags(table, control->slot_offset[IBFT_SLOT_TARGET1], flags))
+        return control->slot_offset[IBFT_SLOT_TARGET1];
     return 0;
 }
 
 /* The target to log in to first: the lowest that is valid; where Control asks
  * for a single login, the selected one if it is valid. */
-static uint16_t first_target(const uint8_t *table)
+static uint16_t first_target(const uint8_t *table, const struct ibft_control *control)
 {
     uint16_t start = 0;
 
-    if (table[CONTROL_FLAGS] & IBFT_CONTROL_SINGLE_LOGIN)
-        start = target_with(table, IBFT_TARGET_VALID | IBFT_TARGET_SELECTED);
-    return start != 0 ? start : target_with(table, IBFT_TARGET_VALID);
+    if (control->header.flags & IBFT_CONTROL_SINGLE_LOGIN)
+        start = target_with(table, control, IBFT_TARGET_VALID | IBFT_TARGET_SELECTED);
+    return start != 0 ? start : target_with(table, control, IBFT_TARGET_VALID);
 }
 
 /* An accepted table has no string with a length and no offset. */
@@ -218,9 +222,8 @@ static void take_target(const uint8_t *table, uint16_t start, struct boot_login 
     login->reverse_chap_secret = text_of(table, target.reverse_chap_secret);
 }
 
-static void take_initiator(const uint8_t *table, struct boot_login *login)
+static void take_initiator(const uint8_t *table, uint16_t start, struct boot_login *login)
 {
-    uint16_t start = start_of(table, INITIATOR_SLOT);
     struct ibft_initiator initiator;
 
     if (!has_flags(table, start, IBFT_INITIATOR_VALID))
@@ -231,12 +234,13 @@ static void take_initiator(const uint8_t *table, struct boot_login *login)
 
 static enum boot_status take_login(const uint8_t *table, struct boot_login *login)
 {
-    uint16_t start = first_target(table);
+    struct ibft_control control = control_of(table);
+    uint16_t start = first_target(table, &control);
 
     if (start == 0)
         return BOOT_NO_TARGET;
     take_target(table, start, login);
-    take_initiator(table, login);
+    take_initiator(table, control.slot_offset[IBFT_SLOT_INITIATOR], login);
     if (login->target_name.length == 0 || login->initiator_name.length == 0)
         return BOOT_NO_NAME;
     return BOOT_READY;

@@ -13,6 +13,10 @@
 #include <stddef.h>
 #include <stdint.h>
 
+#if BOOTFW_VERSION_MAJOR != 1
+#error "this example is written for version 1 of bootfw.h"
+#endif
+
 enum boot_status {
     BOOT_READY = 0,            /* the table is good: `login` is filled in */
     BOOT_MEMORY_REFUSED = 1,   /* the scan refused the memory: `number` */
@@ -38,8 +42,8 @@ struct boot_login {
     uint8_t nic;    /* Index of the NIC to log in by */
     ibft_ip_address ip_address;
     uint16_t port;
-    uint8_t lun[8];    /* as it stands in the table */
-    uint8_t chap_type; /* 0 none, 1 CHAP, 2 mutual CHAP */
+    uint8_t lun[sizeof(uint64_t)]; /* as it stands in the table */
+    uint8_t chap_type;             /* enum ibft_chap_type */
     struct boot_text initiator_name;
     struct boot_text target_name;
     struct boot_text chap_name;
@@ -50,7 +54,7 @@ struct boot_login {
 
 struct boot_report {
     enum boot_status status;
-    uint8_t number;         /* why a call of the library refused, else 0 */
+    uint8_t number;         /* why a call of the library refused: enum ibft_refusal */
     uint32_t place;         /* and where */
     bool built;             /* a table was written into the room */
     uint32_t table_address; /* the table a scan finds; 0 if none */
@@ -62,7 +66,7 @@ struct boot_machine {
     uint8_t *memory; /* low memory */
     size_t memory_size;
     uint64_t memory_address; /* of its first byte, in the machine */
-    uint64_t room_address;   /* memory kept free for a table, at a multiple of 16 */
+    uint64_t room_address;   /* memory kept free for a table */
     size_t room_size;        /* 0: there is none, build nothing */
     struct boot_report report;
 };

@@ -15,17 +15,14 @@
 enum {
     MEMORY_SIZE = 640 * 1024,
     TABLE = 0x90000,   /* where the sample tables are put */
+    TARGET0 = 384,     /* where Target 0 starts in iPXE's sample tables */
     DAMAGED = 0x9EF00, /* a damaged table below the room */
     ROOM = 0x9F000,    /* the last 4 KiB below 640 KiB */
-    ROOM_SIZE = 4096,  /* the longest table that is ever built takes 3,702 */
+    ROOM_SIZE = 4096,
     BUILT_LENGTH = 384 /* the table of the boot program's record */
 };
 
-/* Offsets in every table. */
-enum { LENGTH = 4, CHECKSUM = 9, CONTROL_FLAGS = 53 };
-
-/* Offsets in the sample tables that are changed here: iPXE's. */
-enum { TARGET_0 = 384, TARGET_0_FLAGS = TARGET_0 + 5, TARGET_0_CHAP_TYPE = TARGET_0 + 32 };
+_Static_assert(ROOM_SIZE >= IBFT_LARGEST_LENGTH, "the room is enough for every record");
 
 /* Memory and stack hold these before a run. */
 enum { MEMORY_BYTE = 0xA5, PAINT = 0x5A };
@@ -63,12 +60,30 @@ static void load(const char *sample, size_t address)
 /* Makes the bytes of a table sum to 0. */
 static void mend_sum(uint8_t *table)
 {
-    size_t length = (size_t)(table[LENGTH] | table[LENGTH + 1] << 8);
+    struct ibft_table_header header;
     uint8_t sum = 0;
 
-    for (size_t i = 0; i < length; i++)
+    memcpy(&header, table, sizeof header);
+    for (size_t i = 0; i < header.length; i++)
         sum = (uint8_t)(sum + table[i]);
-    table[CHECKSUM] = (uint8_t)(table[CHECKSUM] - sum);
+    header.checksum = (uint8_t)(header.checksum - sum);
+    memcpy(table, &header, sizeof header);
+}
+
+/* Sets a byte of the sample table. */
+static void change(size_t offset, uint8_t byte)
+{
+    memory[TABLE + offset] = byte;
+    mend_sum(memory + TABLE);
+}
+
+/* Sets a byte of its Target 0, by its offset in the structure. */
+static void change_target(size_t offset, uint8_t byte)
+{
+    struct ibft_control control;
+
+    memcpy(&control, memory + TABLE + IBFT_CONTROL_OFFSET, sizeof control);
+    change(control.slot_offset[IBFT_SLOT_TARGET0] + offset, byte);
 }
 
 static void leave_nothing(void)
@@ -88,35 +103,32 @@ static void leave_mutual_chap(void)
 static void leave_second_selected(void)
 {
     load("ipxe-two-targets.ibft", TABLE);
-    memory[TABLE + TARGET_0_FLAGS] = IBFT_TARGET_VALID;
-    mend_sum(memory + TABLE);
+    change_target(offsetof(struct ibft_target, header.flags), IBFT_TARGET_VALID);
 }
 
 static void leave_single_login(void)
 {
     leave_second_selected();
-    memory[TABLE + CONTROL_FLAGS] = IBFT_CONTROL_SINGLE_LOGIN;
-    mend_sum(memory + TABLE);
+    change(IBFT_CONTROL_OFFSET + offsetof(struct ibft_control, header.flags),
+           IBFT_CONTROL_SINGLE_LOGIN);
 }
 
 static void leave_chap_type_3(void)
 {
     leave_mutual_chap();
-    memory[TABLE + TARGET_0_CHAP_TYPE] = 3;
-    mend_sum(memory + TABLE);
+    change_target(offsetof(struct ibft_target, chap_type), IBFT_CHAP_TYPE_MUTUAL + 1);
 }
 
 static void leave_wrong_sum(void)
 {
     leave_mutual_chap();
-    memory[TABLE + CHECKSUM]++;
+    memory[TABLE + offsetof(struct ibft_table_header, checksum)]++;
 }
 
 static void leave_invalid_target(void)
 {
     leave_mutual_chap();
-    memory[TABLE + TARGET_0_FLAGS] = 0;
-    mend_sum(memory + TABLE);
+    change_target(offsetof(struct ibft_target, header.flags), IBFT_TARGET_SELECTED);
 }
 
 static void leave_no_names(void)
@@ -129,10 +141,10 @@ static void leave_no_names(void)
 static void leave_damage_below_room(void)
 {
     uint8_t *table = memory + DAMAGED;
-    uint32_t length = MEMORY_SIZE - DAMAGED;
+    struct ibft_table_header header = { .length = MEMORY_SIZE - DAMAGED };
 
-    memcpy(table, "iBFT", 4);
-    memcpy(table + LENGTH, &length, sizeof length);
+    memcpy(header.signature, IBFT_SIGNATURE, sizeof header.signature);
+    memcpy(table, &header, sizeof header);
     memset(memory + ROOM, 0, BUILT_LENGTH);
     mend_sum(table);
     memory[ROOM] = 1;
@@ -176,12 +188,13 @@ static const struct boot_case cases[] = {
       { .status = BOOT_READY, .built = true, FOUND(ROOM, BUILT_LENGTH) } },
     { "a table with CHAP type 3", leave_chap_type_3, ALL, NULL,
       { .status = BOOT_TABLE_REFUSED, FOUND(TABLE, 611),
-        REFUSED(IBFT_REFUSED_CHAP_TYPE, TARGET_0_CHAP_TYPE) } },
+        REFUSED(IBFT_REFUSED_CHAP_TYPE, TARGET0 + offsetof(struct ibft_target, chap_type)) } },
     { "a table whose target is not valid", leave_invalid_target, ALL, NULL,
       { .status = BOOT_NO_TARGET, FOUND(TABLE, 611) } },
     { "a table without names", leave_no_names, ALL, NULL,
       { .status = BOOT_NO_NAME, FOUND(TABLE, 133) } },
-    { "memory past 0x100000", leave_dump, 0x60001, MEMORY_SIZE, ROOM, ROOM_SIZE, NULL,
+    { "memory past 0x100000", leave_dump,
+      IBFT_WINDOW_END - MEMORY_SIZE + 1, MEMORY_SIZE, ROOM, ROOM_SIZE, NULL,
       { .status = BOOT_MEMORY_REFUSED, REFUSED(IBFT_REFUSED_PAST_WINDOW, 0) } },
     { "no table, no room", leave_nothing, 0, MEMORY_SIZE, 0, 0, NULL,
       { .status = BOOT_NO_TABLE } },
@@ -189,13 +202,16 @@ static const struct boot_case cases[] = {
       0, MEMORY_SIZE, ROOM, BUILT_LENGTH - 1, NULL,
       { .status = BOOT_BUILD_REFUSED, REFUSED(IBFT_REFUSED_ROOM, 0) } },
     { "no table, room at no multiple of 16", leave_nothing,
-      0, MEMORY_SIZE, ROOM + 8, BUILT_LENGTH, NULL, { .status = BOOT_ROOM_REFUSED } },
+      0, MEMORY_SIZE, ROOM + IBFT_TABLE_ALIGNMENT / 2, BUILT_LENGTH, NULL,
+      { .status = BOOT_ROOM_REFUSED } },
     { "no table, room below 512 KiB", leave_nothing,
-      0, MEMORY_SIZE, IBFT_WINDOW_START - 16, ROOM_SIZE, NULL, { .status = BOOT_ROOM_REFUSED } },
+      0, MEMORY_SIZE, IBFT_WINDOW_START - IBFT_TABLE_ALIGNMENT, ROOM_SIZE, NULL,
+      { .status = BOOT_ROOM_REFUSED } },
     { "no table, room past 640 KiB", leave_nothing,
-      0x10000, MEMORY_SIZE, ROOM + 16, ROOM_SIZE, NULL, { .status = BOOT_ROOM_REFUSED } },
+      0x10000, MEMORY_SIZE, ROOM + IBFT_TABLE_ALIGNMENT, ROOM_SIZE, NULL,
+      { .status = BOOT_ROOM_REFUSED } },
     { "no table, room that ends past the memory", leave_nothing,
-      0, ROOM + 16, ROOM, ROOM_SIZE, NULL, { .status = BOOT_ROOM_REFUSED } },
+      0, ROOM + IBFT_TABLE_ALIGNMENT, ROOM, ROOM_SIZE, NULL, { .status = BOOT_ROOM_REFUSED } },
     { "no table, room that starts past the memory", leave_nothing,
       0, TABLE, ROOM, ROOM_SIZE, NULL, { .status = BOOT_ROOM_REFUSED } },
     { "no table, room below the memory", leave_nothing,
@@ -233,13 +249,14 @@ static void print_secret(const char *what, struct boot_text text)
 
 static void print_address(const uint8_t *address)
 {
-    static const uint8_t ipv4[12] = { [10] = 0xFF, [11] = 0xFF };
+    static const ibft_ip_address ipv4 = IBFT_IPV4(0, 0, 0, 0);
+    const uint8_t *four = address + IBFT_IPV4_OFFSET;
 
-    if (memcmp(address, ipv4, sizeof ipv4) == 0) {
-        printf("%u.%u.%u.%u", address[12], address[13], address[14], address[15]);
+    if (memcmp(address, ipv4, IBFT_IPV4_OFFSET) == 0) {
+        printf("%u.%u.%u.%u", four[0], four[1], four[2], four[3]);
         return;
     }
-    for (size_t i = 0; i < 16; i += 2)
+    for (size_t i = 0; i < sizeof(ibft_ip_address); i += 2)
         printf("%s%x", i == 0 ? "" : ":", (unsigned)(address[i] << 8 | address[i + 1]));
 }
 
@@ -268,7 +285,7 @@ static void print_report(const struct boot_report *report)
     if (report->table_length != 0)
         printf("  table at 0x%x, %u bytes\n", (unsigned)report->table_address,
                (unsigned)report->table_length);
-    if (report->number != 0)
+    if (report->number != IBFT_ACCEPTED)
         printf("  refused %u %u\n", report->number, (unsigned)report->place);
     printf("  status %u: %s\n", (unsigned)report->status, status_words[report->status]);
     if (report->status == BOOT_READY)
@@ -311,7 +328,7 @@ static void expect_report(const struct boot_report *report, const struct boot_ca
     if (tried->target_name != NULL) {
         expect(report->login.target == expected->login.target, "the target's Index");
         expect(report->login.nic == expected->login.nic, "the NIC's Index");
-        expect(report->login.port == 3260, "the port");
+        expect(report->login.port == IBFT_ISCSI_PORT, "the port");
         expect(name.length == strlen(tried->target_name), "the length of the target's name");
         expect(memcmp(name.bytes, tried->target_name, name.length + 1u) == 0, "the target's name");
     }
