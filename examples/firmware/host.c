@@ -286,7 +286,8 @@ static void print_report(const struct boot_report *report)
         printf("  table at 0x%x, %u bytes\n", (unsigned)report->table_address,
                (unsigned)report->table_length);
     if (report->number != IBFT_ACCEPTED)
-        printf("  refused %u %u\n", report->number, (unsigned)report->place);
+        printf("  refused %u %u: %s\n", report->number, (unsigned)report->place,
+               ibft_refusal_text(report->number));
     printf("  status %u: %s\n", (unsigned)report->status, status_words[report->status]);
     if (report->status == BOOT_READY)
         print_login(&report->login);
