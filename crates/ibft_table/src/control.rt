@@ -35,7 +35,7 @@ impl Control {
     pub const WORDS_AT: u16 = 56;
 
     // What the layout knows of the kind.
-    pub fn shape() -> Shape
+    pub(crate) fn shape() -> Shape
         ensures { λ r. ⌜ r ≡ shapeOf control ⌝ }
     {
         Shape {
