@@ -1,5 +1,7 @@
 // The initiator structure.
+use crate::layout::LONGEST_NAME;
 use crate::layout::Shape;
+use crate::layout::StringShape;
 use crate::reading::refusal_of;
 use crate::structure::slot_verdict;
 use crate::structure::structure_part;
@@ -29,6 +31,13 @@ impl Initiator {
     pub const LENGTH: u16 = 74;
     // The mask of the flag bits that are not named (flag bits 0 and 1: valid, selected).
     pub const RESERVED: u8 = 0xFC;
+
+    // Its strings.
+    pub(crate) const NAME: StringShape = StringShape {
+        at: 70,
+        longest: LONGEST_NAME,
+        host: false,
+    };
 
     // What the layout knows of the kind.
     pub(crate) fn shape() -> Shape

@@ -92,51 +92,9 @@ pub struct StringShape {
 }
 
 // The longest an iSCSI name may be (RFC 3720), and any other string.
-const LONGEST_NAME: u16 = 223;
+pub(crate) const LONGEST_NAME: u16 = 223;
 
-const LONGEST: u16 = 255;
-
-const INITIATOR_NAME: StringShape = StringShape {
-    at: 70,
-    longest: LONGEST_NAME,
-    host: false,
-};
-
-const NIC_HOST: StringShape = StringShape {
-    at: 98,
-    longest: LONGEST,
-    host: true,
-};
-
-const TARGET_NAME: StringShape = StringShape {
-    at: 34,
-    longest: LONGEST_NAME,
-    host: false,
-};
-
-const CHAP_NAME: StringShape = StringShape {
-    at: 38,
-    longest: LONGEST,
-    host: false,
-};
-
-const CHAP_SECRET: StringShape = StringShape {
-    at: 42,
-    longest: LONGEST,
-    host: false,
-};
-
-const REVERSE_NAME: StringShape = StringShape {
-    at: 46,
-    longest: LONGEST,
-    host: false,
-};
-
-const REVERSE_SECRET: StringShape = StringShape {
-    at: 50,
-    longest: LONGEST,
-    host: false,
-};
+pub(crate) const LONGEST: u16 = 255;
 
 // Entries are numbered slot by slot, in the order of the strings in the structure.
 pub const ENTRY_COUNT: u8 = 13;
@@ -167,19 +125,19 @@ pub fn string_of(n: u8) -> StringShape
     ensures { λ r. ⌜ r ≡ stringShape (stringOf n) ⌝ }
 {
     match n {
-        1 => NIC_HOST,
-        2 => TARGET_NAME,
-        3 => CHAP_NAME,
-        4 => CHAP_SECRET,
-        5 => REVERSE_NAME,
-        6 => REVERSE_SECRET,
-        7 => NIC_HOST,
-        8 => TARGET_NAME,
-        9 => CHAP_NAME,
-        10 => CHAP_SECRET,
-        11 => REVERSE_NAME,
-        12 => REVERSE_SECRET,
-        _ => INITIATOR_NAME,
+        1 => Nic::HOST,
+        2 => Target::NAME,
+        3 => Target::CHAP_NAME,
+        4 => Target::CHAP_SECRET,
+        5 => Target::REVERSE_NAME,
+        6 => Target::REVERSE_SECRET,
+        7 => Nic::HOST,
+        8 => Target::NAME,
+        9 => Target::CHAP_NAME,
+        10 => Target::CHAP_SECRET,
+        11 => Target::REVERSE_NAME,
+        12 => Target::REVERSE_SECRET,
+        _ => Initiator::NAME,
     }
 }
 

@@ -1,5 +1,7 @@
 // The NIC structure.
+use crate::layout::LONGEST;
 use crate::layout::Shape;
+use crate::layout::StringShape;
 use crate::reading::refusal_of;
 use crate::structure::slot_verdict;
 use crate::structure::structure_part;
@@ -37,6 +39,13 @@ impl Nic {
     pub const LENGTH: u16 = 102;
     // The mask of the flag bits that are not named (flag bits 0 to 2: valid, selected, global).
     pub const RESERVED: u8 = 0xF8;
+
+    // Its strings.
+    pub(crate) const HOST: StringShape = StringShape {
+        at: 98,
+        longest: LONGEST,
+        host: true,
+    };
 
     // The slot of NIC n. (For a large n no `u8` holds it.)
     pub(crate) fn slot(n: u8) -> u16

@@ -1,5 +1,8 @@
 // The target structure.
+use crate::layout::LONGEST;
+use crate::layout::LONGEST_NAME;
 use crate::layout::Shape;
+use crate::layout::StringShape;
 use crate::reading::refusal_of;
 use crate::structure::slot_verdict;
 use crate::structure::structure_part;
@@ -36,6 +39,37 @@ impl Target {
     pub const LENGTH: u16 = 54;
     // The mask of the flag bits that are not named (flag bits 0 to 3: valid, selected, Radius CHAP, Radius rCHAP).
     pub const RESERVED: u8 = 0xF0;
+
+    // Its strings.
+    pub(crate) const NAME: StringShape = StringShape {
+        at: 34,
+        longest: LONGEST_NAME,
+        host: false,
+    };
+
+    pub(crate) const CHAP_NAME: StringShape = StringShape {
+        at: 38,
+        longest: LONGEST,
+        host: false,
+    };
+
+    pub(crate) const CHAP_SECRET: StringShape = StringShape {
+        at: 42,
+        longest: LONGEST,
+        host: false,
+    };
+
+    pub(crate) const REVERSE_NAME: StringShape = StringShape {
+        at: 46,
+        longest: LONGEST,
+        host: false,
+    };
+
+    pub(crate) const REVERSE_SECRET: StringShape = StringShape {
+        at: 50,
+        longest: LONGEST,
+        host: false,
+    };
 
     // The flag bits that the login order looks at.
     pub const VALID: u8 = 1;
