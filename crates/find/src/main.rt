@@ -1,6 +1,7 @@
 // Finds the iBFT in a memory dump, which stands on standard input: `find ADDRESS`, with the address of the dump's first byte, in
 // decimal or behind 0x in hexadecimal. Prints `table` with the table's address and Length, or `refused` with the number of the
 // refusal and its place, which is 0. `find ADDRESS bytes` writes the table's bytes instead, and a refusal to standard error.
+// Where there is no table and the dump begins with zero bytes only, that is said on standard error.
 use notation::number::Number;
 use notation::number::read_number;
 use octets::read::part;
@@ -10,7 +11,10 @@ use scan::scan_for;
 use scan::table_for;
 use text::split::same;
 ghost use mathlib.Core.Path.{_≡_};
-ghost use Prim.Native.Nat.{min};
+ghost use Prim.Native.Nat.{ℕ, min, _+_, _^_, _≤_, _<_};
+ghost use lib.ListN.{length};
+ghost use Rattle.octets.specs.Counting.{first};
+ghost use Rattle.octets.specs.Octets.{byte, differs};
 
 const STDIN: i32 = 0;
 
@@ -20,6 +24,9 @@ const STDERR: i32 = 2;
 
 // Where the window starts: no table stands below.
 const WINDOW_START: u64 = 0x80000;
+
+// An operating system that shows memory as zeros does so page by page.
+const PAGE: usize = 4096;
 
 fn print_refusal(fd: i32, s: Scanned) {
     io::write_all(fd, b"refused ");
@@ -35,11 +42,54 @@ fn print_found(s: Scanned) {
     io::write_all(STDOUT, b"\n");
 }
 
+// With how many zero bytes the memory begins.
+fn zeros_of(memory: &[u8]) -> usize
+    ensures { λ r. ⌜ (r ≡ first (length (now (memory .entry))) (λ (k : ℕ). differs (byte (now (memory .entry)) k) 0))
+        × (r ≤ length (now (memory .entry))) ⌝ }
+{
+    let mut n = 0;
+    while n < memory.len() {
+        if memory[n] != 0 {
+            return n;
+        }
+        n += 1;
+    }
+    n
+}
+
+fn print_zeros(from: u64, to: u64) {
+    io::write_all(
+        STDERR,
+        b"find: the dump holds nothing but zero bytes from 0x",
+    );
+    io::print_hex(STDERR, from, 1);
+    io::write_all(STDERR, b" to 0x");
+    io::print_hex(STDERR, to, 1);
+    io::write_all(STDERR, b"\n");
+}
+
+// Says so where the memory that starts at the address is all zeros, or is so for a page or more.
+fn tell_zeros(memory: &[u8], address: u64)
+    requires { ⌜ address + length (now memory) < 2 ^ 64 ⌝ }
+{
+    let n = zeros_of(memory);
+    if n == 0 {
+        return;
+    }
+    if n < memory.len() && n < PAGE {
+        return;
+    }
+    print_zeros(address, address + (n as u64 - 1));
+}
+
 // What the scan finds in the memory that starts at the address: said in a line, or its bytes.
 fn answer(memory: &[u8], address: u64, bytes: bool) {
     let scanned = scan_for(Family::IBFT, memory, address);
     if scanned.number != 0 {
         print_refusal(if bytes { STDERR } else { STDOUT }, scanned);
+        if scanned.number == 2 {
+            tell_zeros(memory, address);
+        }
         return;
     }
     if bytes {
