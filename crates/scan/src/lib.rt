@@ -6,6 +6,8 @@ use octets::sum::checksum;
 ghost use mathlib.Core.Path.{_≡_};
 ghost use Prim.Native.Nat.{_+_, _%_, _<_, _^_};
 ghost use lib.ListN.{length};
+ghost use lib.Dec.{eqb};
+ghost use Rattle.octets.specs.Octets.{sum};
 ghost use Rattle.scan.specs.Scan.{soundAt, lowest, refused};
 ghost use Rattle.scan.specs.Promises.{Promise, View};
 
@@ -47,8 +49,15 @@ impl Scanned {
     }
 }
 
+// Do the bytes of a table sum to 0 modulo 256? They do exactly where the checksum byte stands in its place.
+fn sums_to_zero(table: &[u8]) -> bool
+    ensures { λ r. ⌜ r ≡ eqb (sum (now (table .entry)) % 256) 0 ⌝ }
+{
+    checksum(table, 9) == byte_at(table, 9)
+}
+
 // Is the place at offset k sound (document 01, "Finding it")? The first byte is tested first, since nearly all places fail
-// there; the bytes sum to 0 exactly where the checksum byte stands in its place.
+// there.
 fn sound(f: Family, mem: &[u8], address: u64, k: usize) -> bool
     requires { ⌜ (address + length (now mem) < 2 ^ 64) × (k < length (now mem)) × ((address + k) % 16 ≡ 0) ⌝ }
     ensures { λ r. ⌜ r ≡ soundAt f (now (mem .entry)) address k ⌝ }
@@ -74,7 +83,7 @@ fn sound(f: Family, mem: &[u8], address: u64, k: usize) -> bool
         return false;
     }
     let table = part(mem, k, size as usize);
-    checksum(table, 9) == byte_at(table, 9)
+    sums_to_zero(table)
 }
 
 // The offset of the lowest sound place, or the number of bytes lent where there is none.

@@ -1,15 +1,16 @@
 -- `sound` meets its contract: each return before the last is a test of `soundAt` that fails, the last is the test of the sum.
 -- Assumes nothing.
-use mathlib.Core.Path.{_≡_, sym, ap, _∙_}
+use mathlib.Core.Path.{_≡_, ap, _∙_}
+use mathlib.Core.List.{List}
 use mathlib.Core.Bool.{and-false}
-use Prim.Native.Nat.{ℕ, _+_, _%_, _<_}
+use Prim.Native.Nat.{ℕ, _+_, _%_}
 use native.Mathlib.Omega.{arith}
 use lib.ListN.{length}
+use lib.Dec.{eqb}
 use borrow.Author.Tests.{eq-eqb, ne-eqb, le-leb, lt-leb}
 use borrow.Author.Needs.{needs}
-use Rattle.octets.specs.Octets.{byte, word32, part}
+use Rattle.octets.specs.Octets.{word32, part, sum}
 use Rattle.scan.specs.Scan.{soundAt, lengthAt}
-use Rattle.scan.proofs.ScanLaws.{sums-to-zero}
 use Rattle.scan.proofs.sound.Statement.{statement}
 use Rattle.scan.proofs.sound.Tie as tie
 
@@ -53,12 +54,11 @@ returns-6 c =
 returns-7 : tie.Need-returns-7
 unfolding soundAt
 returns-7 c =
-    let a = c .before .before .before .before .before .before .before .before .before .before .before .before .before .before .before .before .before .before .args in
+    let a = c .before .before .before .before .before .before .before .before .before .before .before .before .before .before .before .before .before .args in
     let t = a .mem .now in
     let n = lengthAt t (a .k) in
-    let table : c .before .before .part .result .now ≡ part t (a .k) n =
-    c .before .before .part .ensures .bytes ∙ ap (part t (a .k)) (c .before .before .before .before .before .before .before .before .before .before .u32-at2 .ensures) in
-    let below : byte (part t (a .k) n) 9 < 256 = rw (← table, ← c .byte-at .ensures) (search needs) in
+    let size = c .before .before .before .before .before .before .before .before .before .u32-at2 in
+    let table : c .before .part .result .now ≡ part t (a .k) (size .result) = c .before .part .ensures .bytes in
     simp (
       eq-eqb ((a .address + a .k) % 16) 0 (omega arith),
       eq-eqb (word32 t (a .k)) (a .f .signature) (omega arith),
@@ -67,7 +67,7 @@ returns-7 c =
       le-leb (a .k + n) (length t) (omega arith),
       le-leb (a .address + a .k + n) (a .f .high) (omega arith),
     )
-    (cc (sums-to-zero (part t (a .k) n) 9 below))
+    (c .sums-to-zero .ensures ∙ ap (λ (l : List ℕ). eqb (sum l % 256) 0) (table ∙ ap (part t (a .k)) (size .ensures)))
 
 pub sound-spec : {M : Type 1} → statement M
-sound-spec = tie.close (tie.spec (search needs) (search needs) returns (search needs) returns-2 (search needs) (search needs) returns-3 (search needs) returns-4 (search needs) (search needs) returns-5 (search needs) (search needs) returns-6 (search needs) (search needs) (search needs) (search needs) returns-7)
+sound-spec = tie.close (tie.spec (search needs) (search needs) returns (search needs) returns-2 (search needs) (search needs) returns-3 (search needs) returns-4 (search needs) (search needs) returns-5 (search needs) (search needs) returns-6 (search needs) (search needs) (search needs) returns-7)
