@@ -14,7 +14,7 @@ packed-requires-2 : tie.Need-packed-requires-2
 packed-requires-2 c κs =
     let s = c .before .before .before .before in
     let told = sym (c .before .before .before .check .ensures .verdict-is) ∙ c .before .refusal .given .1 in
-    place-below (s .before .args .table .now) (λ i. omega (arith, s .shared-slice-known .given i)) _ told
+    omega (arith, place-below (s .before .args .table .now) (λ i. omega (arith, s .shared-slice-known .given i)) _ told)
 
 returns : tie.Need-returns
 unfolding refusalOf
