@@ -5,7 +5,7 @@ use crate::model_build::Heap;
 use crate::model_layout::ENTRIES;
 use crate::model_record::Record;
 
-/// The largest Length that document 01 names.
+/// The largest Length: RULES.md, Least Length.
 pub const LARGEST_LENGTH: usize = 3_702;
 
 /// Things that the records and rooms have to have shown.

@@ -1,5 +1,5 @@
 //! Compares what the static libraries and the programs `show`, `tell` and `enter` answer with
-//! independent readings of document 01 and docs/RECORD-FORMAT.md, on seeded inputs. Prints how often
+//! independent readings of RULES.md and docs/RECORD-FORMAT.md, on seeded inputs. Prints how often
 //! each answer was met; exits 1 at the first difference.
 //!
 //! The readings are the files model_*.rs, written from the documents alone; a call that is exported

@@ -1,4 +1,4 @@
-//! `ibft_build` held to the reading of document 01 in model_build.rs: the answer, every byte of the
+//! `ibft_build` held to the reading of RULES.md in model_build.rs: the answer, every byte of the
 //! room and round it; then each table is checked, read back and compared with the record.
 
 use crate::build_refusals::BuildRefusals;

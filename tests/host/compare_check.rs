@@ -1,4 +1,4 @@
-//! `ibft_check` held to the reading of document 01 in model_check.rs, on tables of many shapes.
+//! `ibft_check` held to the reading of RULES.md in model_check.rs, on tables of many shapes.
 
 use crate::library;
 use crate::model_answer::{number, packed};
@@ -65,7 +65,7 @@ fn compare_one(input: &mut Input, tally: &mut Tally, refusals: &mut Refusals) ->
     true
 }
 
-/// Tables by name, with the Length that document 01 gives them.
+/// Tables by name, with the Length that RULES.md gives them.
 fn known_tables() -> [(&'static str, usize, Table); 11] {
     [
         ("case 1, nothing present", 66, structures(&[]).mended()),

@@ -363,7 +363,7 @@ fn example_address_is_35() -> bool {
     answer == 0 && given == "192.168.70.35" && compare_address(&example) && compare_address(&fifty)
 }
 
-/// Every PCI word; case 10 of document 01 is one of them.
+/// Every PCI word; case 10 of RULES.md, Worked cases, is one of them.
 fn compare_pci_words() -> bool {
     assert_eq!(model::pci_parts(0x0019), (0, 3, 1));
     (0..=0xFFFF).all(|word: u16| {

@@ -1,4 +1,4 @@
-//! `ibft_scan` held to the reading of document 01 in model_scan.rs, on inputs of many shapes.
+//! `ibft_scan` held to the reading of RULES.md in model_scan.rs, on inputs of many shapes.
 
 use crate::lent_memory::{LentMemory, HEADER, WINDOW_END, WINDOW_START};
 use crate::library;

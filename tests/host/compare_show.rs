@@ -69,7 +69,7 @@ fn stored_outputs_hold() -> bool {
     })
 }
 
-/// Document 01's own example, letter by letter, for the table that it describes.
+/// The example of RULES.md, Show, letter by letter, for the table that it describes.
 fn example_holds() -> bool {
     let example = "table 133\ncontrol multi\ntarget0 72 1\nentry 3 126 6\nentry 5 131 1\norder 0\n";
     let holds = SAMPLES[0].shown == example && SAMPLES[0].table == case_5().bytes;

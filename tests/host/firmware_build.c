@@ -42,7 +42,7 @@ static uint32_t build_ibft(const char *name, const char *reverse_name, uint8_t *
 }
 /* end of example */
 
-/* Document 01's case 5: CHAP name depot7, reverse CHAP name 7. */
+/* Case 5 of docs/RULES.md: CHAP name depot7, reverse CHAP name 7. */
 enum { CASE_5_LENGTH = 133, CHECKSUM = 9, TARGET = 72, HEAP = 126 };
 
 static const uint8_t case_5[CASE_5_LENGTH] = {

@@ -216,7 +216,7 @@ static void names_parts_of_an_answer(void)
     expect(ibft_answer_length(answer) == 0x01234567, "the Length");
 }
 
-/* Document 01: 192.168.70.50 ends in 0x32; PCI word 0x0019 is bus 0, device 3,
+/* RULES.md: 192.168.70.50 ends in 0x32; PCI word 0x0019 is bus 0, device 3,
  * function 1. */
 static void names_addresses(void)
 {

@@ -1,4 +1,4 @@
-//! Records that no build refuses but for want of room, as various as document 01 lets them be. What
+//! Records that no build refuses but for want of room, as various as RULES.md lets them be. What
 //! is no part of the record holds rubbish; strings lie anywhere in their range and share bytes.
 
 use crate::good_tables::{any_bytes, any_host_name, oem_text, shuffle};

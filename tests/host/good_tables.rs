@@ -1,4 +1,4 @@
-//! Tables that the check accepts, as various as document 01 lets them be: structures in any order
+//! Tables that the check accepts, as various as RULES.md lets them be: structures in any order
 //! with gaps between, strings anywhere in the heap, with bytes of their own or shared.
 
 use crate::compare_host_name::good_name;

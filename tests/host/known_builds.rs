@@ -1,4 +1,4 @@
-//! Builds of records that document 01 describes, with the answers and offsets that it gives.
+//! Builds of the records of RULES.md, Worked cases, with the answers and offsets given there.
 
 use crate::compare_build::{in_words, packed_build};
 use crate::lent_build::LentBuild;
@@ -9,7 +9,7 @@ use crate::record_maker::*;
 use crate::samples::SAMPLES;
 use crate::seeded::Seeded;
 
-/// A record that document 01 or a test knows: the room it is built into, the Length or the refusal
+/// A record that RULES.md or a test knows: the room it is built into, the Length or the refusal
 /// that it is answered, and offsets of entries.
 struct Known {
     name: &'static str,
@@ -40,7 +40,7 @@ fn refused(name: &'static str, given: Given, room_size: usize, number: u64, plac
     }
 }
 
-/// Document 01's cases 1 to 9, 11 and 12, and its names of 223 and 224 bytes.
+/// Cases 1 to 9, 11 and 12 of RULES.md, Worked cases, and its names of 223 and 224 bytes.
 fn known_records() -> Vec<Known> {
     let of = record_with;
     let target = |reverse: &[u8]| of(&[2], &[(3, b"depot7"), (5, reverse)]);

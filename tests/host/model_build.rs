@@ -1,4 +1,4 @@
-//! Document 01, "Building" and the build's refusals, read a second time: each refusal once, in the
+//! RULES.md, Building and the build's Refusals, read a second time: each refusal once, in the
 //! order of the build, then the table.
 
 use crate::model_check::{is_zero_after_first_zero, refuse_if, Refusal, Verdict};

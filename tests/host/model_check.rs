@@ -1,4 +1,4 @@
-//! Document 01, "Refusal numbers" 3 to 19, read a second time: each rule once, in the order of the
+//! RULES.md, Refusals 3 to 19, read a second time: each rule once, in the order of the
 //! check. The first that applies is the answer.
 
 use crate::model_host_name::is_host_name;

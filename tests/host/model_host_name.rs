@@ -1,4 +1,4 @@
-//! Document 01, "Strings", the host name: cut the bytes at every dot, then judge the pieces.
+//! RULES.md, Host names: cut the bytes at every dot, then judge the pieces.
 
 const LONGEST_LABEL: usize = 63;
 

@@ -1,4 +1,4 @@
-//! Document 01, "Layout" and the entry numbers of "Strings", as data; and how a table's bytes are
+//! RULES.md, Layout and the entry numbers of Strings, as data; and how a table's bytes are
 //! read as numbers.
 //!
 //! Numbers are `u64`, so that no sum of a start, an offset and a length can wrap. A read past the

@@ -1,4 +1,4 @@
-//! Document 01, "Login order", read a second time: list the valid targets, then move the selected
+//! RULES.md, Login order, read a second time: list the valid targets, then move the selected
 //! one to the front.
 
 use crate::model_check::{check, Refusal};

@@ -1,4 +1,4 @@
-//! Document 01, "Layout" and "Strings", read a second time: what a table's readings give. Each runs
+//! RULES.md, Layout and Strings, read a second time: what a table's readings give. Each runs
 //! the check, then refuses with 23, then with 22.
 
 use crate::model_check::{check, Refusal};

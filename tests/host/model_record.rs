@@ -1,4 +1,4 @@
-//! What makes up a record: document 01, "Building", read a second time from the two ranges that a
+//! What makes up a record: RULES.md, Record, read a second time from the two ranges that a
 //! build is lent, and from a table. Equal records are equal in all that counts.
 
 use crate::model_layout::*;

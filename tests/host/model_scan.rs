@@ -1,4 +1,4 @@
-//! Document 01, "Finding it", read a second time: byte by byte, with no thought of speed.
+//! RULES.md, Finding, read a second time: byte by byte, with no thought of speed.
 //!
 //! Addresses are `u128`, so that no sum of an address, a size and a Length can wrap.
 

@@ -1,4 +1,4 @@
-//! Document 01, "The bench program", read a second time: what `show` prints for its input.
+//! RULES.md, Show, read a second time: what `show` prints for its input.
 
 use crate::model_check::Refusal;
 use crate::model_layout::*;

@@ -129,7 +129,7 @@ pub fn record_with(slots: &[usize], texts: &[(usize, &[u8])]) -> Given {
     given
 }
 
-/// Document 01's case 5: Target 0 alone, CHAP name `depot7`, and its last byte as reverse name.
+/// Case 5 of RULES.md: Target 0 alone, CHAP name `depot7`, and its last byte as reverse name.
 pub fn case_5() -> Given {
     let mut given = record_with(&[2], &[(3, b"depot7"), (5, b"7")]);
     given.set_flags(2, VALID as u8);

@@ -1,4 +1,4 @@
-//! Tables for the tests, laid as document 01 has them: structures at any places, strings anywhere.
+//! Tables for the tests, laid as RULES.md has them: structures at any places, strings anywhere.
 //! Nothing here keeps a caller from laying a table wrongly; that is what damage is made of.
 
 use crate::model_layout::*;
@@ -182,7 +182,7 @@ pub fn with_texts(present: &[usize], texts: &[(usize, &[u8])]) -> Table {
     table
 }
 
-/// Document 01's case 5: Target 0 alone, CHAP name `depot7`, and its last byte as reverse name.
+/// Case 5 of RULES.md: Target 0 alone, CHAP name `depot7`, and its last byte as reverse name.
 pub fn case_5() -> Table {
     let mut table = with_texts(&[2], &[(3, b"depot7")]);
     table.set_flags(2, VALID as u8);

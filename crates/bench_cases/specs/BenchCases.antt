@@ -1,4 +1,4 @@
--- Bench cases 1 to 12 of document 01, as one list under one theorem. Each row is a question and the answer that the paper gives.
+-- Cases 1 to 12 of RULES.md, Worked cases, as one list under one theorem. Each row is a question and the answer given there.
 use mathlib.Core.Path.{_≡_, refl}
 use mathlib.Core.List.{List, [], _∷_, _++_, map}
 use mathlib.Core.Bool.{cond}

@@ -1,5 +1,5 @@
-// Document 01's "run and compared" cases of the build: a line for each. Cases 1 to 12 are proved as one table in specs/. Standard
-// input holds the table of case 5, the one that `show` is tested on.
+// The builds of RULES.md, Worked cases, that are run and compared: a line for each. Cases 1 to 12 are proved as one table in specs/.
+// Standard input holds the table of case 5, the one that `show` is tested on.
 use build_rules::Built;
 use ibft_build::build::build;
 use ibft_table::check::check;

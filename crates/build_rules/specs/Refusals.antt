@@ -1,4 +1,4 @@
--- What a build refuses, in document 01's order, all but want of room (21). Assumes nothing: these are definitions.
+-- What a build refuses, in the order of RULES.md, Refusals, all but want of room (21). Assumes nothing: these are definitions.
 use Prim.Native.Nat.{ℕ, _+_}
 use mathlib.Core.List.{List, [], _∷_, _++_}
 use mathlib.Core.Bool.{Bool, false, cond, not, _&&_, _||_}

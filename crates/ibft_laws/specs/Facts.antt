@@ -1,4 +1,4 @@
--- What an accepted table holds, as facts: document 01's Layout and Strings without the refusals. `AcceptedLaws` shows that a
+-- What an accepted table holds, as facts: RULES.md, Layout and Strings, without the refusals. `AcceptedLaws` shows that a
 -- table is accepted exactly where all of these hold. Assumes nothing: these are definitions.
 use mathlib.Core.Path.{_≡_}
 use mathlib.Core.Logic.{_⊎_}

@@ -1,4 +1,4 @@
--- The check: every test in document 01's order, each with its number and place. Assumes nothing: these are definitions.
+-- The check: every test in the order of RULES.md, Refusals, each with its number and place. Assumes nothing: these are definitions.
 use Prim.Native.Nat.{ℕ, _+_, _%_}
 use mathlib.Core.List.{List, [], _∷_, _++_}
 use mathlib.Core.Bool.{Bool, true, cond, not, _&&_, _||_}

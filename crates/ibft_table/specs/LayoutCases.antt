@@ -1,4 +1,4 @@
--- The layout's data, worked out: what document 01's tables say, by computation.
+-- The layout's data, worked out: what the tables of RULES.md, Layout and Strings, say, by computation.
 use mathlib.Core.Path.{_≡_, refl}
 use mathlib.Core.List.{List, [], _∷_, _++_}
 use mathlib.Core.Bool.{true, false}

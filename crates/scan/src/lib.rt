@@ -56,7 +56,7 @@ fn sums_to_zero(table: &[u8]) -> bool
     checksum(table, 9) == byte_at(table, 9)
 }
 
-// Is the place at offset k sound (document 01, "Finding it")? The first byte is tested first, since nearly all places fail
+// Is the place at offset k sound (RULES.md, Finding)? The first byte is tested first, since nearly all places fail
 // there.
 fn sound(f: Family, mem: &[u8], address: u64, k: usize) -> bool
     requires { ⌜ (address + length (now mem) < 2 ^ 64) × (k < length (now mem)) × ((address + k) % 16 ≡ 0) ⌝ }
