@@ -1,11 +1,13 @@
 -- `put_front` meets its contract: Control stands right behind the header. Assumes nothing.
+use native.Mathlib.Omega.{arith}
+use lib.ListN.{length-take, length-drop}
 use Rattle.ibft_build.proofs.TableLaws.{front-is}
 use borrow.Author.Needs.{needs}
 use Rattle.ibft_build.proofs.write_table.put_front.Statement.{statement}
 use Rattle.ibft_build.proofs.write_table.put_front.Tie as tie
 
 put-control-requires : tie.Need-put-control-requires
-put-control-requires c κs = let p = c .before .before .before .before .before .before .before .before .pre in (search needs, p .2)
+put-control-requires c κs = let p = c .before .before .before .before .before .before .before .before .pre in (simp (length-take, length-drop) (omega arith), p .2)
 
 returns : tie.Need-returns
 returns c =
