@@ -21,7 +21,7 @@ returns c =
 returns-2 : tie.Need-returns-2
 returns-2 c =
     let p = c .before .before .before .before .before .before .before .pre in
-    covered-late _ _ _ _ _ _ (p .0) (p .2) (p .3) _ (wanted-at _ _ (p .1) _ (p .3)) (search needs) (search needs)
+    covered-late _ _ _ _ _ _ (p .0) (p .2) (p .3) _ (wanted-at _ _ (p .1) _ (p .3)) (omega arith) (omega arith)
 
 is-tail-requires : tie.Need-is-tail-requires
 is-tail-requires c κs =
