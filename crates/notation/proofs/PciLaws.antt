@@ -1,16 +1,23 @@
 -- Laws of PCI addresses as they are written: a PCI word's text has each part where it is read, and the parts make the word.
+--     or-bits                  a number shifted left and bits below it, joined by `|`, are a sum
 --     deviceFunction-small     device and function are a byte
 --     pci-back                 the text of a word is read as that word
 -- Assumes nothing.
 use mathlib.Core.Path.{_≡_, refl, ap}
 use mathlib.Core.List.{List}
 use mathlib.Core.Option.{Option, none, some, Option·map, Option·none-ne-some, bind}
-use Prim.Native.Nat.{ℕ, _+_, _*_, _/_, _%_, _<_}
+use Prim.Native.Nat.{ℕ, _+_, _*_, _/_, _%_, _^_, _<_}
 use native.Mathlib.Omega.{arith}
+use lib.Bits.{bitOr, or-shifted}
 use Rattle.octets.specs.Octets.{byte}
 use Rattle.notation.specs.Number.{below, digit, hexByteAt, padded}
 use Rattle.notation.specs.Pci.{pciForm, deviceFunction, readPci, pciText}
 use Rattle.notation.proofs.NumberLaws.{hex-byte-back, digit-back, digit-below, below-yes, below-some}
+
+pub or-bits : (a k b : ℕ) → a * 2 ^ k < 2 ^ 64 → b < 2 ^ k → bitOr (a * 2 ^ k % 2 ^ 64) b ≡ a * 2 ^ k + b
+or-bits a k b fits low =
+    let whole : a * 2 ^ k % 2 ^ 64 ≡ a * 2 ^ k = omega arith in
+    rw whole (or-shifted a k b low)
 
 pub deviceFunction-small : (t : List ℕ) (n : ℕ) → deviceFunction t ≡ some n → n < 256
 unfolding deviceFunction bind

@@ -40,7 +40,7 @@ fn read_device_function(s: &[u8]) -> Number
     let Number::Value(function) = digit_value(8, byte_at(s, 6)) else {
         return Number::Bad;
     };
-    Number::Value(device * 8 + function)
+    Number::Value(device << 3 | function)
 }
 
 // The word that s says: bus x 256 + device x 8 + function.
@@ -56,7 +56,7 @@ pub fn read_pci(s: &[u8]) -> PciRead
     let Number::Value(rest) = read_device_function(s) else {
         return PciRead::Bad;
     };
-    PciRead::Word((bus * 256 + rest) as u16)
+    PciRead::Word((bus << 8 | rest) as u16)
 }
 
 // Puts a dot and the function's digit at `at`; answers the place behind them.
@@ -64,7 +64,7 @@ fn put_function(room: &mut [u8], at: usize, word: u16) -> usize
     ensures { λ r. ⌜ Puts (now (room .entry)) (now (room .exit)) at r (functionText word) ⌝ }
 {
     let next = put_char(room, at, b'.');
-    put_char(room, next, digit_byte((word % 8) as u64))
+    put_char(room, next, digit_byte((word & 7) as u64))
 }
 
 // Puts a colon, the device and the function at `at`; answers the place behind them.
@@ -72,7 +72,7 @@ fn put_device(room: &mut [u8], at: usize, word: u16) -> usize
     ensures { λ r. ⌜ Puts (now (room .entry)) (now (room .exit)) at r (deviceText word) ⌝ }
 {
     let device = put_char(room, at, b':');
-    let next = put_hex_byte(room, device, (word / 8 % 32) as u8);
+    let next = put_hex_byte(room, device, (word >> 3 & 31) as u8);
     put_function(room, next, word)
 }
 
@@ -80,6 +80,6 @@ fn put_device(room: &mut [u8], at: usize, word: u16) -> usize
 pub fn put_pci(room: &mut [u8], at: usize, word: u16) -> usize
     ensures { λ r. ⌜ Puts (now (room .entry)) (now (room .exit)) at r (pciText word) ⌝ }
 {
-    let next = put_hex_byte(room, at, (word / 256) as u8);
+    let next = put_hex_byte(room, at, (word >> 8) as u8);
     put_device(room, next, word)
 }

@@ -1,7 +1,9 @@
 -- `read_device_function` meets its contract, by cases of the device and of the function. Assumes nothing.
-use mathlib.Core.Path.{_≡_, sym, _∙_}
+use mathlib.Core.Path.{_≡_, sym, ap, _∙_}
 use mathlib.Core.Option.{some, bind}
 use native.Mathlib.Omega.{arith}
+use Rattle.notation.specs.declared.number.Number.the-variants.{Value}
+use Rattle.notation.proofs.PciLaws.{or-bits}
 use Rattle.notation.specs.Number.{below, digit, hexByteAt, answer}
 use Rattle.notation.specs.Pci.{deviceFunction}
 use Rattle.notation.proofs.NumberLaws.{answer-value, answer-bad, below-yes, below-no, digit-below}
@@ -36,13 +38,10 @@ returns-3 c =
     let told = answer-bad (digit 8 (c .before .before .before .byte-at .result)) (sym (c .before .before .digit-value .ensures) ∙ c .enum-told2 .given .1) in
     rw (device (c .before .before .before .before .before), below-yes 32 (c .before .before .before .before .before .before .device .given .0 .0) (omega arith), ← c .before .before .before .byte-at .ensures, told)
 
-add-t9 : tie.Need-add-t9
-add-t9 c = omega (arith, digit-below 8 (c .before .before .before .before .byte-at .result) (c .before .function .given .0 .0) (function c))
-
 returns-4 : tie.Need-returns-4
 unfolding answer deviceFunction bind
 returns-4 c =
-    rw (device (c .before .before .before .before .before .before), below-yes 32 (c .before .before .before .before .before .before .before .device .given .0 .0) (omega arith), ← c .before .before .before .before .byte-at .ensures, function c)
+    rw (device (c .before .before .before .before .before .before), below-yes 32 (c .before .before .before .before .before .before .before .device .given .0 .0) (omega arith), ← c .before .before .before .before .byte-at .ensures, function c) (ap Value (or-bits (c .before .before .before .before .before .before .before .device .given .0 .0) 3 (c .before .function .given .0 .0) (omega arith) (digit-below 8 (c .before .before .before .before .byte-at .result) (c .before .function .given .0 .0) (function c))))
 
 pub read-device-function-spec : {M : Type 1} → statement M
-read-device-function-spec = tie.close (tie.spec (search needs) (search needs) (search needs) returns returns-2 (search needs) (search needs) (search needs) (search needs) returns-3 (search needs) add-t9 returns-4)
+read-device-function-spec = tie.close (tie.spec (search needs) (search needs) (search needs) returns returns-2 (search needs) (search needs) (search needs) (search needs) returns-3 returns-4)
