@@ -7,7 +7,8 @@
 --     decoded-.., content-..     what the answer to the length says of the string
 --     string-short       a string is not longer than its text
 --     string-back        the text of a string stands for that string
---     text-seen, text-nonempty, text-length     what that text looks like
+--     text-nonempty, text-length     how long that text is
+--     text-line, text-whole          it has no line feed, and no blank at its ends
 -- Assumes nothing.
 use mathlib.Core.Path.{_≡_, refl, sym, ap, _∙_}
 use mathlib.Core.List.{List, [], _∷_, _++_, append-assoc, append-nil}
@@ -19,19 +20,21 @@ use native.Mathlib.Nat.{add-zero, zero-add}
 use native.Mathlib.Numerals.{add-one}
 use native.Mathlib.Decide.{decLt}
 use native.Mathlib.Omega.{arith}
-use lib.ListN.{length, take, drop, drop-of-length-le, length-append, length-drop}
-use lib.Seq.{drop-cons, take-suc}
-use lib.Dec.{eqb, leb}
-use borrow.Author.Tests.{eq-eqb, ne-eqb, le-leb, leb-true, eqb-false, not-true}
-use Rattle.octets.specs.Counting.{first, any, tabulate}
+use lib.ListN.{length, drop, drop-of-length-le, length-append, length-drop}
+use lib.Seq.{drop-cons}
+use lib.Dec.{eqb, leb, ltb}
+use borrow.Author.Tests.{eq-eqb, ne-eqb, le-leb, le-ltb, leb-true, eqb-false, not-true}
+use Rattle.octets.specs.Counting.{first, any, tabulate, gather}
 use Rattle.octets.specs.Octets.{byte, differs}
-use Rattle.octets.proofs.CountingLaws.{each-holds}
+use Rattle.octets.proofs.CountingLaws.{each-holds, gather-last}
 use Rattle.octets.proofs.ReadLaws.{byte-past}
-use Rattle.octets.proofs.TestLaws.{and-both}
+use Rattle.octets.proofs.TestLaws.{and-both, and-no}
 use Rattle.text.specs.Put.{Puts}
+use Rattle.text.specs.Split.{isBlank, is, before, blanks, trimEnd, trim, each, lacks}
+use Rattle.text.proofs.SplitLaws.{trimEnd-whole, trimEnd-append, trim-whole, blanks-append}
 use Rattle.text.proofs.PutLaws.{puts-nothing, puts-length, puts-within, puts-append, puts-same}
 use Rattle.notation.specs.Number.{within, below, hexDigit, digit, valueFrom, numeral, hexByteAt, answer, digitByte, padded}
-use Rattle.notation.specs.Escape.{backslash, quote, bare, visible, joined, bytesOf, escaped, numbered, isQuotes, stringOf, answerOf, contentOf, byteText, bytesText, stringText}
+use Rattle.notation.specs.Escape.{backslash, quote, bare, joined, bytesOf, escaped, numbered, isQuotes, stringOf, answerOf, contentOf, firstShown, shown, byteText, isInner, textAt, stringText}
 use Rattle.notation.specs.EscapeWalk.{Begins}
 use Rattle.notation.specs.declared.number.Number.the-variants.{Value, Bad as BadNumber}
 use Rattle.notation.specs.declared.escape.Piece.{Piece}
@@ -337,108 +340,129 @@ string-short (b ∷ t) =
     short-cond (isQuotes (b ∷ t)) (suc (length t)) (some []) (bytesOf (b ∷ t))
     (λ s e. omega (arith, ap length (same-some (some []) [] s refl e))) (bytes-short (b ∷ t))
 
--- ---- the text of bytes
-
-text-append : (xs ys : List ℕ) → bytesText (xs ++ ys) ≡ bytesText xs ++ bytesText ys
-unfolding bytesText
-text-append [] ys = refl
-text-append (x ∷ xs) ys = ap (λ (l : List ℕ). byteText x ++ l) (text-append xs ys) ∙ sym (append-assoc (byteText x) (bytesText xs) (bytesText ys))
-
-pub text-more : (s : List ℕ) (i : ℕ) → i < length s → bytesText (take i s) ++ byteText (byte s i) ≡ bytesText (take (i + 1) s)
-unfolding bytesText
-text-more s i h =
-    let last : bytesText (byte s i ∷ []) ≡ byteText (byte s i) = append-nil (byteText (byte s i)) in
-    sym (rw (add-one, take-suc s i 0) (text-append (take i s) (byte s i ∷ []) ∙ ap (λ (l : List ℕ). bytesText (take i s) ++ l) last))
+-- ---- the text of bytes, one after another
 
 pub text-empty : (s : List ℕ) → length s ≡ 0 → quote ∷ quote ∷ [] ≡ stringText s
 unfolding stringText
 text-empty [] e = refl
 text-empty (b ∷ s) e = absurd (omega arith)
 
-pub text-bytes : (s : List ℕ) → 0 < length s → bytesText s ≡ stringText s
+pub text-bytes : (s : List ℕ) → 0 < length s → gather (textAt s) 0 (length s) ≡ stringText s
 unfolding stringText
 text-bytes [] h = absurd (omega arith)
 text-bytes (b ∷ s) h = refl
 
--- ---- the text of a byte: itself where it is visible, else `\x` and two digits
+-- the texts of the first i bytes and that of byte i
+pub text-more : (s : List ℕ) (i : ℕ) (inner : Bool) → inner ≡ isInner s i → gather (textAt s) 0 i ++ byteText inner (byte s i) ≡ gather (textAt s) 0 (i + 1)
+unfolding textAt
+text-more s i inner e =
+    let last : textAt s (0 + i) ≡ byteText inner (byte s i) = rw (zero-add i) (ap (λ (v : Bool). byteText v (byte s i)) (sym e)) in
+    sym (rw add-one (gather-last (textAt s) 0 i ∙ ap (λ (l : List ℕ). gather (textAt s) 0 i ++ l) last))
 
-visible-facts : (b : ℕ) → visible b ≡ true → (0x21 ≤ b) × (b ≤ 0x7e) × (b ≡ backslash → ⊥) × (b ≡ quote → ⊥)
-visible-facts b e =
-    let both = and-both (within 0x21 0x7e b && differs b backslash) (differs b quote) e in
-    let rest = and-both (within 0x21 0x7e b) (differs b backslash) (both .0) in
-    let bounds = and-both (leb 0x21 b) (leb b 0x7e) (rest .0) in (
-      leb-true 0x21 b (bounds .0),
-      leb-true b 0x7e (bounds .1),
-      eqb-false b backslash (not-true (eqb b backslash) (rest .1)),
-      eqb-false b quote (not-true (eqb b quote) (both .1)),
-    )
+-- ---- the text of a byte: itself where it is shown, else `\x` and two digits
 
--- what holds of the byte's text holds of both
-by-text : (P : List ℕ → Type 0) (b : ℕ) → ((0x21 ≤ b) × (b ≤ 0x7e) × (b ≡ backslash → ⊥) × (b ≡ quote → ⊥) → P (b ∷ []))
-    → P (backslash ∷ (code "x" ∷ padded 2 16 b)) → P (byteText b)
-unfolding byteText
-by-text P b own other = go (visible b) (λ e. own (visible-facts b e))
-  where
-    go : (v : Bool) → (v ≡ true → P (b ∷ [])) → P (cond v (b ∷ []) (backslash ∷ (code "x" ∷ padded 2 16 b)))
-    go true f = f refl
-    go false f = other
+-- what is known of a byte that is written as itself
+record Shown (inner : Bool) (b : ℕ) : Type 0 where
+  low : firstShown inner ≤ b
+  high : b ≤ 0x7e
+  no-backslash : b ≡ backslash → ⊥
+  no-quote : b ≡ quote → ⊥
 
-pub own-text : (b : ℕ) → visible b ≡ true → b ∷ [] ≡ byteText b
-unfolding byteText
-own-text b e = rw e
+shown-facts : (inner : Bool) (b : ℕ) → shown inner b ≡ true → Shown inner b
+shown-facts inner b e =
+    let low = firstShown inner in
+    let both = and-both (within low 0x7e b && differs b backslash) (differs b quote) e in
+    let rest = and-both (within low 0x7e b) (differs b backslash) (both .0) in
+    let bounds = and-both (leb low b) (leb b 0x7e) (rest .0) in
+    record {
+      low = leb-true low b (bounds .0);
+      high = leb-true b 0x7e (bounds .1);
+      no-backslash = eqb-false b backslash (not-true (eqb b backslash) (rest .1));
+      no-quote = eqb-false b quote (not-true (eqb b quote) (both .1));
+    }
 
-pub escape-text : (b : ℕ) → visible b ≡ false → backslash ∷ (code "x" ∷ []) ++ padded 2 16 b ≡ byteText b
-unfolding byteText
-escape-text b e = rw e
+-- it is no control character
+shown-low : (inner : Bool) (b : ℕ) → Shown inner b → 0x20 ≤ b
+shown-low true b f = f .low
+shown-low false b f = omega (arith, f .low)
+
+module _ (inner : Bool) (b : ℕ) where
+  -- what holds of the byte's text holds of both
+  by-text : (P : List ℕ → Type 0) → (Shown inner b → P (b ∷ [])) → P (backslash ∷ (code "x" ∷ padded 2 16 b)) → P (byteText inner b)
+  unfolding byteText
+  by-text P own other = go (shown inner b) (λ e. own (shown-facts inner b e))
+    where
+      go : (v : Bool) → (v ≡ true → P (b ∷ [])) → P (cond v (b ∷ []) (backslash ∷ (code "x" ∷ padded 2 16 b)))
+      go true f = f refl
+      go false f = other
+
+  pub own-text : shown inner b ≡ true → b ∷ [] ≡ byteText inner b
+  unfolding byteText
+  own-text e = rw e
+
+  pub escape-text : shown inner b ≡ false → backslash ∷ (code "x" ∷ []) ++ padded 2 16 b ≡ byteText inner b
+  unfolding byteText
+  escape-text e = rw e
 
 -- ---- the text of a string, read back
 
--- the text of a byte is one piece that stands for it
-piece-back : (b : ℕ) (t : List ℕ) → b < 256 → bytesOf (byteText b ++ t) ≡ joined (some b) (bytesOf t)
+-- a text is one piece that stands for the byte
+abbrev Stands : List ℕ → ℕ → Type 0
+Stands x b = (t : List ℕ) → bytesOf (x ++ t) ≡ joined (some b) (bytesOf t)
+
+piece-back : (inner : Bool) (b : ℕ) → b < 256 → Stands (byteText inner b) b
 unfolding bytesOf padded
-piece-back b t h =
-    by-text (λ (x : List ℕ). bytesOf (x ++ t) ≡ joined (some b) (bytesOf t)) b
-    (λ f. simp (ne-eqb b backslash (f .2), le-leb 0x20 b (omega (arith, f .0)), ne-eqb b 0x7f (omega (arith, f .1))))
+piece-back inner b h t =
+    by-text inner b (λ (x : List ℕ). bytesOf (x ++ t) ≡ joined (some b) (bytesOf t))
+    (λ f. simp (ne-eqb b backslash (f .no-backslash), le-leb 0x20 b (shown-low inner b f), ne-eqb b 0x7f (omega (arith, f .high))))
     (ap (λ (o : Option ℕ). joined o (bytesOf t)) (numeral-padded 16 (omega arith) (omega arith) 1 b h))
 
-bytes-back : (s : List ℕ) → ((i : ℕ) → byte s i < 256) → bytesOf (bytesText s) ≡ some s
-unfolding bytesOf bytesText
-bytes-back [] h = refl
-bytes-back (b ∷ s) h = piece-back b (bytesText s) (h 0) ∙ ap (joined (some b)) (bytes-back s (λ i. h (suc i)))
+-- such texts of the bytes of s, one after another, stand for s
+pieces-back : (f : ℕ → List ℕ) (s : List ℕ) (k : ℕ) → ((i : ℕ) → Stands (f (k + i)) (byte s i)) → bytesOf (gather f k (length s)) ≡ some s
+unfolding gather bytesOf
+pieces-back f [] k each = refl
+pieces-back f (b ∷ s) k each =
+    let here : f (k + 0) ≡ f k = ap f (add-zero k) in
+    let next : (i : ℕ) → f (k + suc i) ≡ f (suc k + i) = λ i. ap f (omega arith) in
+    (rw here at (each 0)) (gather f (suc k) (length s)) ∙ ap (joined (some b)) (pieces-back f s (suc k) (λ i. rw (next i) at (each (suc i))))
 
--- it does not begin with a quote
-text-no-quotes : (b : ℕ) (t : List ℕ) → isQuotes (byteText b ++ t) ≡ false
-text-no-quotes b t =
-    by-text (λ (x : List ℕ). isQuotes (x ++ t) ≡ false) b (λ f. simp (ne-eqb b quote (f .3), and-false)) (simp and-false)
+-- the text of a string does not begin with a quote
+text-no-quotes : (inner : Bool) (b : ℕ) (t : List ℕ) → isQuotes (byteText inner b ++ t) ≡ false
+text-no-quotes inner b t =
+    by-text inner b (λ (x : List ℕ). isQuotes (x ++ t) ≡ false) (λ f. simp (ne-eqb b quote (f .no-quote), and-false)) (simp and-false)
 
-byte-nonempty : (b : ℕ) → 0 < length (byteText b)
-byte-nonempty b = by-text (λ (x : List ℕ). 0 < length x) b (λ f. omega arith) (omega arith)
+byte-nonempty : (inner : Bool) (b : ℕ) → 0 < length (byteText inner b)
+byte-nonempty inner b = by-text inner b (λ (x : List ℕ). 0 < length x) (λ f. omega arith) (omega arith)
 
 pub text-nonempty : (s : List ℕ) → 0 < length (stringText s)
-unfolding stringText bytesText
+unfolding stringText gather textAt
 text-nonempty [] = omega arith
-text-nonempty (b ∷ s) = omega (arith, length-append (byteText b) (bytesText s), byte-nonempty b)
+text-nonempty (b ∷ s) =
+    omega (arith, length-append (textAt (b ∷ s) 0) (gather (textAt (b ∷ s)) 1 (length s)), byte-nonempty (isInner (b ∷ s) 0) b)
 
 -- the text of a string of bytes stands for that string
 pub string-back : (s : List ℕ) → ((i : ℕ) → byte s i < 256) → stringOf (stringText s) ≡ some s
-unfolding stringOf stringText bytesText
+unfolding stringOf stringText gather textAt
 string-back [] h = refl
-string-back (b ∷ s) h = string-bytes (bytesText (b ∷ s)) (text-nonempty (b ∷ s)) (text-no-quotes b (bytesText s)) ∙ bytes-back (b ∷ s) h
+string-back (b ∷ s) h =
+    string-bytes (stringText (b ∷ s)) (text-nonempty (b ∷ s)) (text-no-quotes (isInner (b ∷ s) 0) b (gather (textAt (b ∷ s)) 1 (length s)))
+    ∙ pieces-back (textAt (b ∷ s)) (b ∷ s) 0 (λ i. rw (zero-add i) (piece-back (isInner (b ∷ s) i) (byte (b ∷ s) i) (h i)))
 
 -- ---- what the text of a string looks like
 
-byte-length : (b : ℕ) → length (byteText b) ≤ 4
-byte-length b = by-text (λ (x : List ℕ). length x ≤ 4) b (λ f. omega arith) (omega (arith, padded-length 16 2 b))
+byte-length : (inner : Bool) (b : ℕ) → length (byteText inner b) ≤ 4
+byte-length inner b = by-text inner b (λ (x : List ℕ). length x ≤ 4) (λ f. omega arith) (omega (arith, padded-length 16 2 b))
 
-bytes-length : (s : List ℕ) → length (bytesText s) ≤ 4 * length s
-unfolding bytesText
-bytes-length [] = omega arith
-bytes-length (b ∷ s) = omega (arith, length-append (byteText b) (bytesText s), byte-length b, bytes-length s)
+bytes-length : (s : List ℕ) (k n : ℕ) → length (gather (textAt s) k n) ≤ 4 * n
+unfolding gather textAt
+bytes-length s k zero = omega arith
+bytes-length s k (suc n) =
+    omega (arith, length-append (textAt s k) (gather (textAt s) (suc k) n), byte-length (isInner s k) (byte s k), bytes-length s (suc k) n)
 
 pub text-length : (s : List ℕ) → length (stringText s) ≤ 4 * length s + 2
 unfolding stringText
 text-length [] = omega arith
-text-length (b ∷ s) = omega (arith, bytes-length (b ∷ s))
+text-length (b ∷ s) = omega (arith, bytes-length (b ∷ s) 0 (length (b ∷ s)))
 
 module _ (P : ℕ → Type 0) where
   each-cons : (x : ℕ) (xs : List ℕ) → P x → Each P xs → Each P (x ∷ xs)
@@ -449,26 +473,73 @@ module _ (P : ℕ → Type 0) where
   each-append [] ys f g = g
   each-append (x ∷ xs) ys f g = each-cons x (xs ++ ys) (f 0 (omega arith)) (each-append xs ys (λ k h. f (suc k) (omega arith)) g)
 
--- no blank, no line feed, nothing else that cannot be seen
-abbrev pub Seen : ℕ → Type 0
-Seen b = 0x21 ≤ b
+  -- a test that no such byte passes
+  each-lacks : (p : ℕ → Bool) → ((b : ℕ) → P b → p b ≡ false) → (t : List ℕ) → Each P t → lacks p t ≡ true
+  unfolding each
+  each-lacks p fails [] f = refl
+  each-lacks p fails (b ∷ t) f = rw (fails b (f 0 (omega arith))) (each-lacks p fails t (λ k h. f (suc k) (omega arith)))
 
-digit-seen : (d : ℕ) → d < 16 → Seen (digitByte d)
+-- no byte is below that which a byte in its place can be
+abbrev AtLeast : Bool → ℕ → Type 0
+AtLeast inner b = firstShown inner ≤ b
+
+digit-seen : (d : ℕ) → d < 16 → 0x21 ≤ digitByte d
 unfolding any first tabulate digitByte
 digit-seen d h = leb-true 0x21 (digitByte d) (each-holds 16 (λ (k : ℕ). leb 0x21 (digitByte k)) refl d h)
 
-byte-seen : (b : ℕ) → Each Seen (byteText b)
-byte-seen b =
-    by-text (Each Seen) b (λ f. each-cons Seen b [] (f .0) (λ k h. absurd (omega arith)))
-    (each-cons Seen backslash (code "x" ∷ padded 2 16 b) (omega arith)
-    (each-cons Seen (code "x") (padded 2 16 b) (omega arith) (padded-each 16 (omega arith) (omega arith) Seen digit-seen 2 b)))
+seen-least : (inner : Bool) (b : ℕ) → 0x21 ≤ b → AtLeast inner b
+seen-least true b h = omega arith
+seen-least false b h = h
 
-bytes-seen : (s : List ℕ) → Each Seen (bytesText s)
-unfolding bytesText
-bytes-seen [] = λ k h. absurd (omega arith)
-bytes-seen (b ∷ s) = each-append Seen (byteText b) (bytesText s) (byte-seen b) (bytes-seen s)
+byte-least : (inner : Bool) (b : ℕ) → Each (AtLeast inner) (byteText inner b)
+byte-least inner b =
+    let P = AtLeast inner in
+    by-text inner b (Each P) (λ f. each-cons P b [] (f .low) (λ k h. absurd (omega arith)))
+    (each-cons P backslash (code "x" ∷ padded 2 16 b) (seen-least inner backslash (omega arith))
+    (each-cons P (code "x") (padded 2 16 b) (seen-least inner (code "x") (omega arith))
+    (padded-each 16 (omega arith) (omega arith) P (λ d h. seen-least inner (digitByte d) (digit-seen d h)) 2 b)))
 
-pub text-seen : (s : List ℕ) → Each Seen (stringText s)
-unfolding stringText
-text-seen [] = each-cons Seen quote (quote ∷ []) (omega arith) (each-cons Seen quote [] (omega arith) (λ k h. absurd (omega arith)))
-text-seen (b ∷ s) = bytes-seen (b ∷ s)
+-- a line feed is in no text
+least-printable : (inner : Bool) (b : ℕ) → AtLeast inner b → 0x20 ≤ b
+least-printable true b h = h
+least-printable false b h = omega arith
+
+bytes-printable : (s : List ℕ) (k n : ℕ) → Each (λ (b : ℕ). 0x20 ≤ b) (gather (textAt s) k n)
+unfolding gather textAt
+bytes-printable s k zero = λ i h. absurd (omega arith)
+bytes-printable s k (suc n) =
+    let inner = isInner s k in
+    each-append (λ (b : ℕ). 0x20 ≤ b) (textAt s k) (gather (textAt s) (suc k) n)
+    (λ i h. least-printable inner (byte (byteText inner (byte s k)) i) (byte-least inner (byte s k) i h)) (bytes-printable s (suc k) n)
+
+pub text-line : (s : List ℕ) → lacks (is 10) (stringText s) ≡ true
+unfolding stringText each
+text-line [] = refl
+text-line (b ∷ s) =
+    each-lacks (λ (x : ℕ). 0x20 ≤ x) (is 10) (λ x h. ne-eqb x 10 (omega arith)) (stringText (b ∷ s)) (bytes-printable (b ∷ s) 0 (length (b ∷ s)))
+
+-- no blank is in the text of its first or of its last byte: it is left whole where a line's value is trimmed
+end-whole : (b : ℕ) → lacks isBlank (byteText false b) ≡ true
+unfolding isBlank
+end-whole b =
+    each-lacks (AtLeast false) isBlank
+    (λ x h. simp (ne-eqb x 32 (omega arith), ne-eqb x 9 (omega arith), ne-eqb x 13 (omega arith)))
+    (byteText false b) (byte-least false b)
+
+first-whole : (w : List ℕ) (n : ℕ) → blanks (gather (textAt w) 0 (suc n)) ≡ 0
+unfolding gather textAt
+first-whole w n = blanks-append (byteText false (byte w 0)) (gather (textAt w) 1 n) (byte-nonempty false (byte w 0)) (end-whole (byte w 0))
+
+last-whole : (w : List ℕ) (n : ℕ) → isInner w n ≡ false → (x : List ℕ) → trimEnd (x ++ textAt w n) ≡ x ++ textAt w n
+unfolding textAt
+last-whole w n e x =
+    rw e (trimEnd-append x (byteText false (byte w n)) (byte-nonempty false (byte w n)) (trimEnd-whole (byteText false (byte w n)) (end-whole (byte w n))))
+
+pub text-whole : (s : List ℕ) → trim (stringText s) ≡ stringText s
+unfolding stringText before isBlank trimEnd
+text-whole [] = trim-whole (quote ∷ quote ∷ []) refl refl
+text-whole (b ∷ s) =
+    let all = b ∷ s in
+    let n = length s in
+    let last : isInner all n ≡ false = and-no (ltb 0 n) (ltb (n + 1) (suc n)) (λ e. le-ltb (n + 1) (suc n) (omega arith)) in
+    trim-whole (stringText all) (first-whole all n) (rw (gather-last (textAt all) 0 n, zero-add n) (last-whole all n last (gather (textAt all) 0 n)))

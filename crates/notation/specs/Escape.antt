@@ -1,13 +1,14 @@
 -- Strings as text, in the words of the record's format: "The bytes as they are. `\xHH` is the byte with that hexadecimal number and `\\` is a backslash;
--- no other byte may follow a backslash. Bytes below 0x20 and the byte 0x7f are written as `\xHH`. `""` alone is the empty string." `code` is a character's
--- number. Assumes nothing: these are definitions.
-use Prim.Native.Nat.{ℕ}
+-- no other byte may follow a backslash. Bytes below 0x20 and the byte 0x7f are written as `\xHH`. `""` alone is the empty string. A string that begins or
+-- ends with a space has it as `\x20`." `code` is a character's number. Assumes nothing: these are definitions.
+use Prim.Native.Nat.{ℕ, _+_}
 use Prim.Native.Char.{code}
-use mathlib.Core.List.{List, [], _∷_, _++_}
+use mathlib.Core.List.{List, [], _∷_}
 use mathlib.Core.Bool.{Bool, cond, _&&_}
 use mathlib.Core.Option.{Option, none, some}
 use lib.ListN.{length}
-use lib.Dec.{eqb, leb}
+use lib.Dec.{eqb, leb, ltb}
+use Rattle.octets.specs.Counting.{gather}
 use Rattle.octets.specs.Octets.{byte, differs}
 use Rattle.notation.specs.Number.{within, numeral, padded}
 use Rattle.notation.specs.declared.escape.Decoded.{Decoded}
@@ -69,20 +70,26 @@ contentOf (some s) = s
 
 -- ---- the text of a string
 
--- a byte that is written as itself: a visible ASCII character other than the backslash and the quote
-abbrev pub visible : ℕ → Bool
-visible b = within 0x21 0x7e b && differs b backslash && differs b quote
+-- a byte that is written as itself: a visible ASCII character other than the backslash and the quote; inside a string the space, too
+abbrev pub firstShown : Bool → ℕ
+firstShown inner = cond inner 0x20 0x21
+
+abbrev pub shown : Bool → ℕ → Bool
+shown inner b = within (firstShown inner) 0x7e b && differs b backslash && differs b quote
 
 -- a byte as it is written: as itself, or as `\x` and two digits
-unfoldable pub byteText : ℕ → List ℕ
-byteText b = cond (visible b) (b ∷ []) (backslash ∷ (code "x" ∷ padded 2 16 b))
+unfoldable pub byteText : Bool → ℕ → List ℕ
+byteText inner b = cond (shown inner b) (b ∷ []) (backslash ∷ (code "x" ∷ padded 2 16 b))
 
--- bytes as they are written, one after another
-unfoldable pub bytesText : List ℕ → List ℕ
-bytesText [] = []
-bytesText (b ∷ s) = byteText b ++ bytesText s
+-- byte i stands inside the string: it is neither the first nor the last
+abbrev pub isInner : List ℕ → ℕ → Bool
+isInner s i = ltb 0 i && ltb (i + 1) (length s)
 
--- the text of a string: that of its bytes, and two quotes for the empty string
+-- byte i of a string as it is written
+unfoldable pub textAt : List ℕ → ℕ → List ℕ
+textAt s i = byteText (isInner s i) (byte s i)
+
+-- the text of a string: its bytes as they are written, one after another; two quotes for the empty string
 unfoldable pub stringText : List ℕ → List ℕ
 stringText [] = quote ∷ quote ∷ []
-stringText (b ∷ s) = bytesText (b ∷ s)
+stringText (b ∷ s) = gather (textAt (b ∷ s)) 0 (length (b ∷ s))

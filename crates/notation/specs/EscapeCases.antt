@@ -4,10 +4,10 @@ use mathlib.Core.List.{List, [], _∷_, _++_, map}
 use mathlib.Core.Option.{Option, none, some, bind}
 use Prim.Native.Nat.{ℕ}
 use Prim.Native.String.{String}
-use Rattle.octets.specs.Counting.{tabulate}
+use Rattle.octets.specs.Counting.{tabulate, gather}
 use Rattle.text.specs.Put.{ascii}
 use Rattle.notation.specs.Number.{hexDigit, below, digit, valueFrom, numeral, digitByte, padded}
-use Rattle.notation.specs.Escape.{bytesOf, stringOf, byteText, bytesText, stringText}
+use Rattle.notation.specs.Escape.{bytesOf, stringOf, byteText, textAt, stringText}
 
 -- a text, and the string that it stands for
 record Case : Type 0 where
@@ -60,10 +60,8 @@ high-bytes : stringOf (128 ∷ 255 ∷ []) ≡ some (128 ∷ 255 ∷ [])
 unfolding bytesOf stringOf
 high-bytes = refl
 
-written : stringText (ascii " a\"\\~" ++ (0 ∷ 127 ∷ 252 ∷ [])) ≡ ascii "\\x20a\\x22\\x5c~\\x00\\x7f\\xfc"
-unfolding tabulate digitByte padded byteText bytesText stringText
+-- strings and their texts: a space is written as itself unless it stands first or last
+written : map stringText ([] ∷ ascii "a  b c" ∷ ascii " a " ∷ ascii " " ∷ ascii "  " ∷ (ascii "a\"\\~" ++ (0 ∷ 127 ∷ 252 ∷ [])) ∷ [])
+    ≡ ascii "\"\"" ∷ ascii "a  b c" ∷ ascii "\\x20a\\x20" ∷ ascii "\\x20" ∷ ascii "\\x20\\x20" ∷ ascii "a\\x22\\x5c~\\x00\\x7f\\xfc" ∷ []
+unfolding tabulate gather digitByte padded byteText textAt stringText
 written = refl
-
-empty-written : stringText [] ≡ ascii "\"\""
-unfolding tabulate stringText
-empty-written = refl

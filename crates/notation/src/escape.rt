@@ -1,4 +1,4 @@
-// Strings as text: any byte can be written, visible ones as they are and the others behind a backslash.
+// Strings as text: any byte can be written, visible ones and spaces inside as they are, the others behind a backslash.
 use crate::number::Number;
 use crate::number::put_hex_byte;
 use crate::number::read_hex_byte;
@@ -10,8 +10,9 @@ ghost use mathlib.Core.List.{List};
 ghost use mathlib.Core.Option.{some};
 ghost use Prim.Native.Nat.{ℕ, _+_, _<_};
 ghost use lib.ListN.{length, drop};
+ghost use Rattle.octets.specs.Counting.{gather};
 ghost use Rattle.text.specs.Put.{Puts};
-ghost use Rattle.notation.specs.Escape.{bare, visible, isQuotes, bytesOf, escaped, numbered, stringOf, answerOf, contentOf, byteText, bytesText, stringText};
+ghost use Rattle.notation.specs.Escape.{bare, firstShown, shown, isQuotes, bytesOf, escaped, numbered, stringOf, answerOf, contentOf, byteText, textAt, stringText};
 ghost use Rattle.notation.specs.EscapeWalk.{Begins};
 
 // What a text stands for: a string of so many bytes, or none.
@@ -33,11 +34,21 @@ fn is_bare(b: u8) -> bool
     (0x20 <= b) & (b != 0x7F)
 }
 
-// Is the byte written as itself?
-fn is_visible(b: u8) -> bool
-    ensures { λ r. ⌜ r ≡ visible b ⌝ }
+// The first character that is written as itself: the space only inside a string, since blanks at its ends are trimmed.
+fn first_shown(inner: bool) -> u8
+    ensures { λ r. ⌜ r ≡ firstShown inner ⌝ }
 {
-    (0x21 <= b) & (b <= 0x7E) & (b != b'\\') & (b != b'"')
+    if inner {
+        return 0x20;
+    }
+    0x21
+}
+
+// Is the byte written as itself?
+fn is_shown(inner: bool, b: u8) -> bool
+    ensures { λ r. ⌜ r ≡ shown inner b ⌝ }
+{
+    (first_shown(inner) <= b) & (b <= 0x7E) & (b != b'\\') & (b != b'"')
 }
 
 // Is the text two quotes, which stand for the empty string?
@@ -147,11 +158,11 @@ pub fn put_string(room: &mut [u8], at: usize, text: &[u8]) -> usize
     put_pieces(room, at, text)
 }
 
-// Puts a byte as it is written in a string.
-fn put_byte_text(room: &mut [u8], at: usize, b: u8) -> usize
-    ensures { λ r. ⌜ Puts (now (room .entry)) (now (room .exit)) at r (byteText b) ⌝ }
+// Puts a byte as it is written inside a string, or as its first or last.
+fn put_byte_text(room: &mut [u8], at: usize, inner: bool, b: u8) -> usize
+    ensures { λ r. ⌜ Puts (now (room .entry)) (now (room .exit)) at r (byteText inner b) ⌝ }
 {
-    if is_visible(b) {
+    if is_shown(inner, b) {
         return put_char(room, at, b);
     }
     let number = put_text(room, at, b"\\x");
@@ -160,12 +171,13 @@ fn put_byte_text(room: &mut [u8], at: usize, b: u8) -> usize
 
 // Puts the bytes of s one after another as they are written in a string.
 fn put_bytes_text(room: &mut [u8], at: usize, s: &[u8]) -> usize
-    ensures { λ r. ⌜ Puts (now (room .entry)) (now (room .exit)) at r (bytesText (now (s .entry))) ⌝ }
+    ensures { λ r. ⌜ Puts (now (room .entry)) (now (room .exit)) at r (gather (textAt (now (s .entry))) 0 (length (now (s .entry)))) ⌝ }
 {
     let mut place = put_text(room, at, &s[..0]);
     let mut i: usize = 0;
     while i < s.len() {
-        place = put_byte_text(room, place, s[i]);
+        let inner = (0 < i) & (i + 1 < s.len());
+        place = put_byte_text(room, place, inner, s[i]);
         i += 1;
     }
     place

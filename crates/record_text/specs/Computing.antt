@@ -4,7 +4,7 @@ use mathlib.Core.Option.{bind}
 use Rattle.text.specs.Computing.{computing as of-text}
 use Rattle.build_rules.specs.Computing.{computing as of-build-rules}
 use Rattle.notation.specs.Number.{hexDigit, below, digit, valueFrom, numeral, number, digitByte, digitsWithin, digits, padded}
-use Rattle.notation.specs.Escape.{bytesOf, escaped, numbered, stringOf, byteText, bytesText, stringText}
+use Rattle.notation.specs.Escape.{bytesOf, escaped, numbered, stringOf, byteText, textAt, stringText}
 use Rattle.notation.specs.Mac.{macForm, every, readMac, macText}
 use Rattle.notation.specs.Pci.{pciForm, deviceFunction, readPci, pciText}
 use Rattle.notation.specs.Address.{
@@ -52,5 +52,5 @@ use Rattle.record_text.specs.Enter.{
 }
 
 unfoldable pub computing : ℕ
-unfolding of-text of-build-rules bind hexDigit below digit valueFrom numeral number digitByte digitsWithin digits padded bytesOf escaped numbered stringOf byteText bytesText stringText macForm every readMac macText pciForm deviceFunction readPci pciText short bytesOfPieces decimal fourBytes group lastGroup groups side gapAt withGap withoutGap readSix readAddress zeroRun longest groupsText fourText sixText isMapped addressText isText isOem groupOf fieldIn fieldOf fieldCount entryOf nameOf found fieldNamed wordByte numberBytes valueBytes valueRead valueText validFlags usualPort blank blankDraft placeOf marked withValue withString reasonOf plainStep stringStep valueStep fieldStep saysNothing lineStep linesFrom enteredFrom
+unfolding of-text of-build-rules bind hexDigit below digit valueFrom numeral number digitByte digitsWithin digits padded bytesOf escaped numbered stringOf byteText textAt stringText macForm every readMac macText pciForm deviceFunction readPci pciText short bytesOfPieces decimal fourBytes group lastGroup groups side gapAt withGap withoutGap readSix readAddress zeroRun longest groupsText fourText sixText isMapped addressText isText isOem groupOf fieldIn fieldOf fieldCount entryOf nameOf found fieldNamed wordByte numberBytes valueBytes valueRead valueText validFlags usualPort blank blankDraft placeOf marked withValue withString reasonOf plainStep stringStep valueStep fieldStep saysNothing lineStep linesFrom enteredFrom
 computing = 0

@@ -9,7 +9,7 @@ use Rattle.octets.specs.Octets.{le16, zeros, checksum, write}
 use Rattle.text.specs.Put.{ascii}
 use Rattle.text.specs.Computing.{computing as of-text}
 use Rattle.notation.specs.Number.{digitByte, digitsWithin, digits, padded}
-use Rattle.notation.specs.Escape.{byteText, bytesText, stringText}
+use Rattle.notation.specs.Escape.{byteText, textAt, stringText}
 use Rattle.notation.specs.Address.{zeroRun, longest, groupsText, fourText, sixText, isMapped, addressText}
 use Rattle.notation.specs.Mac.{macText}
 use Rattle.notation.specs.Pci.{pciText}
@@ -82,5 +82,5 @@ ended [] = []
 ended (l ∷ ls) = l ++ (10 ∷ ended ls)
 
 all-told : map (λ (c : Case). told (c .table)) cases ≡ map (λ (c : Case). ended (c .text)) cases
-unfolding of-tables of-text digitByte digitsWithin digits padded byteText bytesText stringText zeroRun longest groupsText fourText sixText isMapped addressText macText pciText isText groupOf fieldIn fieldOf fieldCount entryOf nameOf valueText structureField recordField bytesIn ifAccepted bytesOf isTold lineWith lineOf tellLine told case5 changed nic tells cases ended
+unfolding of-tables of-text digitByte digitsWithin digits padded byteText textAt stringText zeroRun longest groupsText fourText sixText isMapped addressText macText pciText isText groupOf fieldIn fieldOf fieldCount entryOf nameOf valueText structureField recordField bytesIn ifAccepted bytesOf isTold lineWith lineOf tellLine told case5 changed nic tells cases ended
 all-told = refl
