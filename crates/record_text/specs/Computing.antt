@@ -32,7 +32,7 @@ use Rattle.notation.specs.Address.{
 use Rattle.record_text.specs.Fields.{isText, isOem, groupOf, fieldIn, fieldOf, fieldCount, entryOf, nameOf, found, fieldNamed}
 use Rattle.record_text.specs.Value.{wordByte, numberBytes, valueBytes, valueRead, valueText}
 use Rattle.record_text.specs.Enter.{
-  validFlags,
+  usualFlags,
   usualPort,
   blank,
   blankDraft,
@@ -52,5 +52,5 @@ use Rattle.record_text.specs.Enter.{
 }
 
 unfoldable pub computing : ℕ
-unfolding of-text of-build-rules bind hexDigit below digit valueFrom numeral number digitByte digitsWithin digits padded bytesOf escaped numbered stringOf byteText textAt stringText macForm every readMac macText pciForm deviceFunction readPci pciText short bytesOfPieces decimal fourBytes group lastGroup groups side gapAt withGap withoutGap readSix readAddress zeroRun longest groupsText fourText sixText isMapped addressText isText isOem groupOf fieldIn fieldOf fieldCount entryOf nameOf found fieldNamed wordByte numberBytes valueBytes valueRead valueText validFlags usualPort blank blankDraft placeOf marked withValue withString reasonOf plainStep stringStep valueStep fieldStep saysNothing lineStep linesFrom enteredFrom
+unfolding of-text of-build-rules bind hexDigit below digit valueFrom numeral number digitByte digitsWithin digits padded bytesOf escaped numbered stringOf byteText textAt stringText macForm every readMac macText pciForm deviceFunction readPci pciText short bytesOfPieces decimal fourBytes group lastGroup groups side gapAt withGap withoutGap readSix readAddress zeroRun longest groupsText fourText sixText isMapped addressText isText isOem groupOf fieldIn fieldOf fieldCount entryOf nameOf found fieldNamed wordByte numberBytes valueBytes valueRead valueText usualFlags usualPort blank blankDraft placeOf marked withValue withString reasonOf plainStep stringStep valueStep fieldStep saysNothing lineStep linesFrom enteredFrom
 computing = 0

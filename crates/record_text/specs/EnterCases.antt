@@ -125,9 +125,9 @@ pieces =
     -- Target 0: flags, address, port, LUN, CHAP type, NIC; the strings
     ∷ piece (imageAt 2 + 5) (3 ∷ (mapped (192 ∷ 168 ∷ 70 ∷ 35 ∷ []) ++ (0xbc ∷ 0x0c ∷ 1 ∷ (zeros 7 ++ (2 ∷ 0 ∷ [])))))
     ∷ piece (imageAt 2 + 34) (26 ∷ 0 ∷ 44 ∷ 0 ∷ 6 ∷ 0 ∷ 70 ∷ 0 ∷ 25 ∷ 0 ∷ 76 ∷ 0 ∷ 1 ∷ 0 ∷ 101 ∷ 0 ∷ 0 ∷ 0 ∷ 102 ∷ 0 ∷ [])
-    -- what is not given: NIC 1 with flags `valid`, Target 1 with its port too
-    ∷ piece (imageAt 3) (zeros 5 ++ (1 ∷ zeros 96))
-    ∷ piece (imageAt 4) (zeros 5 ++ (1 ∷ (zeros 16 ++ (0xbc ∷ 0x0c ∷ zeros 30))))
+    -- what is not given: NIC 1 with flags `valid selected`, Target 1 with its port too
+    ∷ piece (imageAt 3) (zeros 5 ++ (3 ∷ zeros 96))
+    ∷ piece (imageAt 4) (zeros 5 ++ (3 ∷ (zeros 16 ++ (0xbc ∷ 0x0c ∷ zeros 30))))
     ∷ []
 
 cabinet-answer : answerOf (enteredFrom cabinet (zeros rangeSize) (zeros 102)) ≡ record { reason = 0; line = 0; field = 0; used = 102 }
