@@ -2,6 +2,7 @@
 
 use crate::model_check::Refusal;
 use crate::model_enter_tell::{enter, tell, Entered};
+use crate::model_login::login_order;
 use crate::model_readings::{self as readings, EntryWords};
 use crate::model_text::{ALL_STRINGS, LONGEST_TEXT};
 
@@ -136,25 +137,27 @@ fn unread_lines() -> Vec<Known> {
 fn presence() -> Vec<Known> {
     let multi = "control multi";
     let address = "nic0.dns2 0.0.0.0";
+    let nic0 = "nic0.flags valid selected";
+    let nic1 = "nic1.flags valid selected";
     vec![
         told("oem.id METTA", &["oem.id METTA", multi]),
         told("oem.table \\x37\ncontrol multi", &["oem.table 7", multi]),
         told("oem.id \"\"\noem.table \\x00", &[multi]),
         told("oem.id A\\x00\\x00", &["oem.id A", multi]),
-        told("initiator.isns ::", &[multi, "initiator.flags valid"]),
+        told("initiator.isns ::", &[multi, "initiator.flags valid selected"]),
         told("initiator.flags none", &[multi, "initiator.flags none"]),
-        told("nic0.vlan 0", &[multi, "nic0.flags valid"]),
-        told("nic1.pci 00:00.0", &[multi, "nic1.flags valid"]),
-        told("nic1.host a.", &[multi, "nic1.flags valid", "nic1.host a."]),
-        told(address, &[multi, "nic0.flags valid", address]),
+        told("nic0.vlan 0", &[multi, nic0]),
+        told("nic1.pci 00:00.0", &[multi, nic1]),
+        told("nic1.host a.", &[multi, nic1, "nic1.host a."]),
+        told(address, &[multi, nic0, address]),
     ]
 }
 
 /// A target has a port that is not zero where it is given none.
 fn targets() -> Vec<Known> {
     let multi = "control multi";
-    let target0 = ["target0.flags valid", "target0.port 3260"];
-    let target1 = ["target1.flags valid", "target1.port 3260"];
+    let target0 = ["target0.flags valid selected", "target0.port 3260"];
+    let target1 = ["target1.flags valid selected", "target1.port 3260"];
     let no_flags = ["target0.flags none", target0[1]];
     let port_0 = [target1[0], "target1.port 0"];
     let both = ["target1.name \"\"", "target0.nic 1"];
@@ -245,7 +248,11 @@ fn every_field() -> Known {
 fn refused_records() -> Vec<Known> {
     let long = |field: &str, size: usize| format!("{} {}", field, "a".repeat(size));
     let is_long = |field: &str, most: usize| {
-        let lines = ["control multi", "target0.flags valid", "target0.port 3260"];
+        let lines = [
+            "control multi",
+            "target0.flags valid selected",
+            "target0.port 3260",
+        ];
         let line = long(field, most);
         told(&line, &[lines[0], lines[1], lines[2], &line])
     };
@@ -458,9 +465,19 @@ fn assert_every_field() {
     }
 }
 
+/// Of two targets whose flags are not given the lower Index goes first in single mode, unless it is
+/// given as not selected.
+fn assert_preferred_target() {
+    let order = |text: &str| login_order(&table_of_text(text.as_bytes())).unwrap();
+    let both = "control single\ntarget0.name a\ntarget1.name b\n";
+    assert_eq!(order(both), [0, 1]);
+    assert_eq!(order(&format!("{}target0.flags valid\n", both)), [1, 0]);
+}
+
 /// Does the model answer each of these texts as the document does?
 pub fn known_texts_agree() -> bool {
     assert_example();
     assert_every_field();
+    assert_preferred_target();
     known_texts().iter().all(is_answered_as_known)
 }

@@ -620,7 +620,11 @@ const TOLD: &[(&str, &[u8], &str)] = &[
     ("target0.flags", &[9], "valid radius-rchap"),
     ("target0.name", b"", "\"\""),
     ("target0.name", b"\"\"", "\\x22\\x22"),
-    ("target0.name", b"a b", "a\\x20b"),
+    ("target0.name", b"a b", "a b"),
+    ("target0.name", b" a  b ", "\\x20a  b\\x20"),
+    ("target0.name", b" ", "\\x20"),
+    ("target0.name", b"   ", "\\x20 \\x20"),
+    ("target0.name", b"a\tb", "a\\x09b"),
     ("target0.name", b"\\", "\\x5c"),
     ("target0.name", b"#~!", "#~!"),
     (
@@ -629,7 +633,8 @@ const TOLD: &[(&str, &[u8], &str)] = &[
         "\\x00\\x1f\\x7f\\x80\\xfc\\xff",
     ),
     ("oem.id", b"METTA\0", "METTA"),
-    ("oem.id", b"A B\xFF\\\"", "A\\x20B\\xff\\x5c\\x22"),
+    ("oem.id", b"A B\xFF\\\"", "A B\\xff\\x5c\\x22"),
+    ("oem.table", b"BXPC    ", "BXPC   \\x20"),
     ("oem.table", b"CABINET7", "CABINET7"),
 ];
 

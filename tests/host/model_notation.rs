@@ -255,10 +255,12 @@ fn written_string(string: &[u8]) -> String {
     if string.is_empty() {
         return "\"\"".to_string();
     }
-    let written = |byte: &u8| match byte {
+    let last = string.len() - 1;
+    let written = |(at, byte): (usize, &u8)| match byte {
         b'\\' | b'"' => format!("\\x{:02x}", byte),
+        b' ' if at != 0 && at != last => " ".to_string(),
         b if b.is_ascii_graphic() => char::from(*b).to_string(),
         _ => format!("\\x{:02x}", byte),
     };
-    string.iter().map(written).collect()
+    string.iter().enumerate().map(written).collect()
 }

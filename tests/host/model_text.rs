@@ -13,6 +13,9 @@ pub const ALL_STRINGS: usize = 4_096;
 /// The port of a target that is given none.
 pub const ISCSI_PORT: u16 = 3260;
 
+/// The flags of a structure that is given none.
+pub const USUAL_FLAGS: u8 = (VALID | SELECTED) as u8;
+
 // ---- Fields ----
 
 /// Where a record has a field's value: from a byte of a slot's structure on, in an entry, or in one
@@ -159,12 +162,13 @@ impl Field {
     }
 }
 
-/// The structure of a slot, present from now on: valid, a target's port 3260, all else zero.
+/// The structure of a slot, present from now on: valid and selected, a target's port 3260, all else
+/// zero.
 fn structure_of(record: &mut Record, slot: usize) -> &mut Vec<u8> {
     record.structures[slot].get_or_insert_with(|| {
         let range = bytes_of_fields(slot);
         let mut structure = vec![0; range.len()];
-        structure[FLAGS_AT as usize - range.start] = VALID as u8;
+        structure[FLAGS_AT as usize - range.start] = USUAL_FLAGS;
         if SLOTS[slot].kind.id == TARGET.id {
             let port = PORT_AT as usize - range.start;
             structure[port..port + 2].copy_from_slice(&ISCSI_PORT.to_le_bytes());

@@ -5,7 +5,7 @@ use crate::good_tables::shuffle;
 use crate::model_layout::number;
 use crate::model_notation::Notation;
 use crate::model_record::Record;
-use crate::model_text::{all_fields, Field, ISCSI_PORT};
+use crate::model_text::{all_fields, Field, ISCSI_PORT, USUAL_FLAGS};
 use crate::seeded::Seeded;
 
 /// A line that says something.
@@ -48,7 +48,7 @@ pub fn line_of(seeded: &mut Seeded, field: &Field, value: &[u8]) -> Line {
 /// Would the record be the same if the field were not given, its structure being there?
 fn is_default(field: &Field, value: &[u8]) -> bool {
     match field.notation {
-        Notation::Flags(_) => value == [1],
+        Notation::Flags(_) => value == [USUAL_FLAGS],
         Notation::Text => false,
         _ if field.name.ends_with(".port") => value == ISCSI_PORT.to_le_bytes(),
         _ => value.iter().all(|byte| *byte == 0),
