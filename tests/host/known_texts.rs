@@ -144,7 +144,10 @@ fn presence() -> Vec<Known> {
         told("oem.table \\x37\ncontrol multi", &["oem.table 7", multi]),
         told("oem.id \"\"\noem.table \\x00", &[multi]),
         told("oem.id A\\x00\\x00", &["oem.id A", multi]),
-        told("initiator.isns ::", &[multi, "initiator.flags valid selected"]),
+        told(
+            "initiator.isns ::",
+            &[multi, "initiator.flags valid selected"],
+        ),
         told("initiator.flags none", &[multi, "initiator.flags none"]),
         told("nic0.vlan 0", &[multi, nic0]),
         told("nic1.pci 00:00.0", &[multi, nic1]),
