@@ -1,6 +1,6 @@
 -- Laws of the readings. A refusal of the check comes first; where it accepts, the tests behind it decide. What an accepted
 -- reading of an entry says lies within the table, since each of the check's tests has passed.
---     check-accepts                    the verdict of a reading, where the check accepts
+--     check-accepts, reading-accepted  the verdict of a reading, where the check accepts, and where it returns 0
 --     slot-accepted, structure-hidden  a reading of a structure that returns 0 is accepted; of a refused one nothing is shown
 --     start-accepted, structure-within its start is the Control word, within the bytes lent
 --     view-stretch                     an entry's view is the stretch that its reading gives, none where that is refused
@@ -112,7 +112,7 @@ module _ (t : List ℕ) where
       (every-gather (entryTests t) entryCount 0 (λ n h. entry-numbered n)))))
 
   -- a reading that returns 0 is accepted
-  reading-accepted : (beyond missing : Bool) (v : Verdict) → firstOf (checkTests t ++ (refuse 23 0 beyond ∷ refuse 22 0 missing ∷ [])) ≡ v
+  pub reading-accepted : (beyond missing : Bool) (v : Verdict) → firstOf (checkTests t ++ (refuse 23 0 beyond ∷ refuse 22 0 missing ∷ [])) ≡ v
       → (refusalOf v) .number ≡ 0 → v ≡ Accepted
   unfolding refusalOf
   reading-accepted beyond missing Accepted e zero = refl

@@ -1,9 +1,10 @@
 -- Laws of what a table tells of a field. A reading by number is accepted exactly where the check accepts the table and the record has
--- what is asked for, and then a field's bytes are a part of the table; a reading that is refused says 0 where it stands.
---     structure-stands, entry-stands                                        whether a reading is accepted, by the place it answers
---     id-field, table-id-field, flags-field, entry-field, structure-field   the bytes of a field, by the reading that gives them
---     number-field, number-past                                             .. of a number that is a field, and of one that is none
---     line-told, line-untold, tell-line, tell-nothing                       a line, by a field's bytes and by where they stand
+-- what is asked for; what it shows then are the field's bytes, and a reading that does not return 0 shows none.
+--     header-none, flags-field, table-id-field, id-field     the bytes of a field, by the reading of the header
+--     entry-none, entry-field                                .. by the reading and the view of an entry
+--     structure-none, structure-field                        .. by the reading and the view of a structure
+--     number-field, number-past                              .. of a number that is a field, and of one that is none
+--     line-told, line-untold                                 a line, by a field's bytes
 -- Assumes nothing.
 use mathlib.Core.Path.{_≡_, refl, sym, ap, _∙_}
 use mathlib.Core.List.{List, [], _∷_, _++_}
@@ -12,37 +13,35 @@ use mathlib.Core.Option.{Option, none, some, Option·map}
 use Prim.Native.Nat.{ℕ, zero, suc, _+_, _-_, _%_, _≤_, _<_}
 use native.Mathlib.Decide.{decLe}
 use native.Mathlib.Omega.{arith}
-use borrow.Author.Tests.{le-leb, lt-leb, lt-ltb, le-ltb, eq-eqb, ne-eqb, leb-true, leb-false, not-false}
-use lib.ListN.{getD, List·getD-eq-default}
-use lib.Seq.{drop-cons}
+use borrow.Author.Tests.{le-leb, lt-leb, lt-ltb, le-ltb, ne-eqb, leb-true}
+use lib.ListN.{getD, drop, List·getD-eq-default}
 use lib.Dec.{leb}
 use Rattle.octets.specs.Counting.{tabulate}
-use Rattle.octets.specs.Octets.{byte, part, differs}
+use Rattle.octets.specs.Octets.{part}
 use Rattle.octets.proofs.CountingLaws.{length-tabulate, getD-tabulate}
-use Rattle.octets.proofs.ReadLaws.{part-within}
-use Rattle.octets.proofs.TestLaws.{and-both, unlike-differs}
+use Rattle.octets.proofs.ReadLaws.{part-within, part-from}
+use Rattle.octets.proofs.TestLaws.{and-both}
 use Rattle.text.specs.Split.{each}
 use Rattle.ibft_table.specs.Layout.{slotCount, entryCount, slotOf, kindOf}
 use Rattle.ibft_table.specs.Table.{startOf, present, sizeOf, offsetOf, holdsEntry}
-use Rattle.ibft_table.specs.Verdict.{refuse, firstOf}
+use Rattle.ibft_table.specs.Verdict.{refuse, firstOf, refusalOf, shown}
 use Rattle.ibft_table.specs.Check.{checkTests, checkOf}
 use Rattle.ibft_table.specs.Record.{recordOf, listed, contentOf, shownIf, bodySize}
-use Rattle.ibft_table.specs.Readings.{slotVerdict, structureFrom, structureOf, entryVerdict, entryFrom, entryOf}
+use Rattle.ibft_table.specs.Readings.{headerOf, slotVerdict, structureIn, structureFrom, structureOf, entryVerdict, entryFrom, entryOf, viewOf}
+use Rattle.ibft_table.specs.declared.header.Header.{Header}
+use Rattle.ibft_table.specs.declared.header.HeaderReading.{HeaderReading}
+use Rattle.ibft_table.specs.declared.structure.StructureReading.{StructureReading}
+use Rattle.ibft_table.specs.declared.entry.EntryReading.{EntryReading}
+use Rattle.ibft_table.specs.declared.verdict.Refusal.{Refusal}
 use Rattle.ibft_table.specs.declared.verdict.Verdict.{Verdict}
 use Rattle.ibft_table.specs.declared.verdict.Verdict.the-variants.{Accepted, Refused}
-use Rattle.ibft_table.proofs.CheckLaws.{heap-after-control}
-use Rattle.ibft_table.proofs.VerdictLaws.{passes, append-passes, append-refused}
-use Rattle.ibft_table.proofs.ReadingLaws.{check-accepts}
-use Rattle.ibft_laws.proofs.AcceptedLaws.{accepted-facts}
+use Rattle.ibft_table.proofs.VerdictLaws.{append-refused}
+use Rattle.ibft_table.proofs.ReadingLaws.{check-accepts, reading-accepted}
+use Rattle.ibft_laws.proofs.ReadingLaws.{header-gives}
 use Rattle.record_text.specs.Fields.{groupOf, groupNumber, firstSlotGroup, isText, fieldIn, fieldOf, fieldCount, entryOf as entryNumber}
-use Rattle.record_text.specs.Tell.{within, structureField, recordField, bytesIn, ifAccepted, bytesOf, isTold, lineWith, lineOf, tellLine, shownAt}
+use Rattle.record_text.specs.Tell.{within, structureField, recordField, bytesIn, ifAccepted, bytesOf, isTold, lineWith, lineOf, fieldFrom}
 use Rattle.record_text.specs.declared.fields.Field.{Field as FieldLayout}
 use Rattle.record_text.proofs.ValueLaws.{each-at}
-use Rattle.record_text.specs.declared.tell.Place.{Place}
-
--- the same verdict in other words
-pub by-verdict : {v w : Verdict} {u : Verdict} → w ≡ v → w ≡ u → (bytes : Option (List ℕ)) → ifAccepted v bytes ≡ ifAccepted u bytes
-by-verdict p q bytes = ap (λ (v : Verdict). ifAccepted v bytes) (sym p ∙ q)
 
 -- ---- a reading by number: 23 past the last, 22 where it is missing
 
@@ -73,46 +72,6 @@ module _ (t : List ℕ) where
                 let below : k < n = omega arith in
                 rw (lt-leb n k below) (missing there ∙ sym (ap g (getD-tabulate f n k none below) ∙ shows below))
           ]
-
-  -- what is asked for is there where its reading is accepted
-  reading-there : (beyond there : Bool) → firstOf (checkTests t ++ (refuse 23 0 beyond ∷ refuse 22 0 (not there) ∷ [])) ≡ Accepted
-      → (checkOf t ≡ Accepted) × (beyond ≡ false) × (there ≡ true)
-  unfolding checkOf
-  reading-there beyond there e =
-      let both = append-passes (checkTests t) (refuse 23 0 beyond ∷ refuse 22 0 (not there) ∷ []) e in
-      let one = passes (refuse 23 0 beyond) (refuse 22 0 (not there) ∷ []) (both .1) in
-      (both .0, one .0, not-false there (passes (refuse 22 0 (not there)) [] (one .1) .0))
-
-  -- ---- whether a reading is accepted, by the place it answers
-
-  structure-from : (k at size : ℕ) (v : Verdict) → slotVerdict t k ≡ v
-      → shownIf (differs ((structureFrom t k v) .start) 0) (part t ((structureFrom t k v) .start + at) size)
-      ≡ ifAccepted v (some (part t (startOf t k + at) size))
-  unfolding structureFrom ifAccepted slotVerdict present
-  structure-from k at size (Refused r) e = refl
-  structure-from k at size Accepted e =
-      ap (λ (b : Bool). shownIf b (part t (startOf t k + at) size)) (reading-there (leb slotCount k) (present t k) e .2)
-
-  pub structure-stands : (k at size start : ℕ) → start ≡ (structureOf t k) .start
-      → shownIf (differs start 0) (part t (start + at) size) ≡ ifAccepted (slotVerdict t k) (some (part t (startOf t k + at) size))
-  unfolding structureOf
-  structure-stands k at size start e = rw e (structure-from k at size (slotVerdict t k) refl)
-
-  entry-from : (n : ℕ) (v : Verdict) → entryVerdict t n ≡ v
-      → shownIf (differs ((entryFrom t n v) .offset) 0) (part t ((entryFrom t n v) .offset) ((entryFrom t n v) .length))
-      ≡ ifAccepted v (some (part t (offsetOf t n) (sizeOf t n)))
-  unfolding entryFrom ifAccepted entryVerdict
-  entry-from n (Refused r) e = refl
-  entry-from n Accepted e =
-      let found = reading-there (leb entryCount n) (holdsEntry t n) e in
-      let low = (accepted-facts t (found .0)) .entry n (leb-false entryCount n (found .1)) (found .2) .low in
-      ap (λ (b : Bool). shownIf b (part t (offsetOf t n) (sizeOf t n)))
-      (unlike-differs (offsetOf t n) 0 (λ z. omega (arith, low, heap-after-control t)))
-
-  pub entry-stands : (n offset size : ℕ) → offset ≡ (entryOf t n) .offset → size ≡ (entryOf t n) .length
-      → shownIf (differs offset 0) (part t offset size) ≡ ifAccepted (entryVerdict t n) (some (part t (offsetOf t n) (sizeOf t n)))
-  unfolding entryOf
-  entry-stands n offset size e l = rw (e, l) (entry-from n (entryVerdict t n) refl)
 
 -- ---- the fields of a structure that are no strings lie in its flags and fields
 
@@ -147,70 +106,156 @@ body-part t true start size field h =
     let same : start + 5 + (field .at - 5) ≡ start + field .at = omega arith in
     ap some (part-within t (start + 5) size (field .at - 5) (field .width) (omega arith) ∙ ap (λ (i : ℕ). part t i (field .width)) same)
 
+-- ---- a reading and its verdict
+
+-- what a verdict shows of some bytes, and of a part of them
+shown-whole : (v : Verdict) (bytes : List ℕ) → ifAccepted v (some (shown v bytes)) ≡ ifAccepted v (some bytes)
+unfolding ifAccepted shown
+shown-whole Accepted bytes = refl
+shown-whole (Refused r) bytes = refl
+
+shown-part : (v : Verdict) (t : List ℕ) (start at size : ℕ)
+    → ifAccepted v (some (part (shown v (drop start t)) at size)) ≡ ifAccepted v (some (part t (start + at) size))
+unfolding ifAccepted shown
+shown-part Accepted t start at size = ap some (part-from t start at size)
+shown-part (Refused r) t start at size = refl
+
+-- a reading that does not return 0 gives no bytes
+refused-nothing : (v : Verdict) (bytes : Option (List ℕ)) → ((refusalOf v) .number ≡ 0 → ⊥) → none ≡ ifAccepted v bytes
+unfolding ifAccepted refusalOf
+refused-nothing Accepted bytes h = absurd (h refl)
+refused-nothing (Refused r) bytes h = refl
+
+accepted-bytes : (v : Verdict) (bytes : Option (List ℕ)) → v ≡ Accepted → bytes ≡ ifAccepted v bytes
+unfolding ifAccepted
+accepted-bytes v bytes e = sym (ap (λ (u : Verdict). ifAccepted u bytes) e)
+
 -- ---- the bytes of a field
 
+module _ (t : List ℕ) where
+  -- a check that returns 0 accepts
+  check-accepted : (v : Verdict) → checkOf t ≡ v → (refusalOf v) .number ≡ 0 → v ≡ Accepted
+  unfolding checkOf
+  check-accepted Accepted e ok = refl
+  check-accepted (Refused r) e ok = reading-accepted t false false (Refused r) (append-refused (checkTests t) _ r e) ok
+
+  structure-refusal : (k : ℕ) (v : Verdict) → (structureFrom t k v) .refusal ≡ refusalOf v
+  unfolding structureFrom refusalOf
+  structure-refusal k Accepted = refl
+  structure-refusal k (Refused r) = refl
+
+  entry-refusal : (n : ℕ) (v : Verdict) → (entryFrom t n v) .refusal ≡ refusalOf v
+  unfolding entryFrom refusalOf
+  entry-refusal n Accepted = refl
+  entry-refusal n (Refused r) = refl
+
 module _ (t : List ℕ) (f : ℕ) where
-  abbrev pub ofTable : Option (List ℕ)
-  ofTable = ifAccepted (checkOf t) (recordField (recordOf t) f)
+  -- the OEM fields and Control's flags, by the reading of the header
+  module _ (reading : HeaderReading) (is : reading ≡ headerOf t) where
+    header-number : reading .refusal .number ≡ (refusalOf (checkOf t)) .number
+    unfolding headerOf
+    header-number = ap (λ (r : HeaderReading). r .refusal .number) is
 
-  -- the OEM fields
-  module _ (group : groupNumber f ≡ 0) where
-    pub table-id-field : f % 16 ≡ 1 → ifAccepted (checkOf t) (some (part t 16 8)) ≡ ofTable
-    unfolding recordField recordOf listed contentOf
-    table-id-field e = rw (eq-eqb (groupNumber f) 0 group, eq-eqb (f % 16) 1 e)
+    pub header-none : (reading .refusal .number ≡ 0 → ⊥) → none ≡ fieldFrom t f
+    header-none h = refused-nothing (checkOf t) _ (λ z. h (header-number ∙ z))
 
-    pub id-field : (f % 16 ≡ 1 → ⊥) → ifAccepted (checkOf t) (some (part t 10 6)) ≡ ofTable
-    unfolding recordField recordOf listed contentOf
-    id-field e = rw (eq-eqb (groupNumber f) 0 group, ne-eqb (f % 16) 1 e)
+    module _ (ok : reading .refusal .number ≡ 0) where
+      accepted : checkOf t ≡ Accepted
+      accepted = check-accepted t (checkOf t) refl (sym header-number ∙ ok)
 
-  -- Control's flags: an accepted table has 66 bytes
-  flags-part : (v : Verdict) → checkOf t ≡ v → ifAccepted v (some (part t 53 1)) ≡ ifAccepted v (some (byte t 53 ∷ []))
-  unfolding ifAccepted part
-  flags-part (Refused r) e = refl
-  flags-part Accepted e =
-      let header = (accepted-facts t e) .header in
-      let long = header .long in
-      let whole = header .whole in
-      rw (drop-cons t 53 0 (omega arith))
+      given : recordField (recordOf t) f ≡ fieldFrom t f
+      given = accepted-bytes (checkOf t) _ accepted
 
-  pub flags-field : groupNumber f ≡ 1 → ifAccepted (checkOf t) (some (part t 53 1)) ≡ ofTable
-  unfolding recordField recordOf listed contentOf
-  flags-field group = flags-part (checkOf t) refl ∙ rw group
+      header : reading .header ≡ record { «oem_id» = (recordOf t) .oemId; «oem_table_id» = (recordOf t) .oemTableId; flags = (recordOf t) .flags }
+      header = ap (λ (r : HeaderReading). r .header) (is ∙ header-gives t accepted)
+
+      pub flags-field : groupNumber f ≡ 1 → some (reading .header .flags ∷ []) ≡ fieldFrom t f
+      unfolding recordField
+      flags-field group = ap (λ (h : Header). some (h .flags ∷ [])) header ∙ field ∙ given
+        where
+          field : some ((recordOf t) .flags ∷ []) ≡ recordField (recordOf t) f
+          field = rw group
+
+      pub table-id-field : groupNumber f ≡ 0 → f % 16 ≡ 1 → some (reading .header .«oem_table_id») ≡ fieldFrom t f
+      unfolding recordField
+      table-id-field group e = ap (λ (h : Header). some (h .«oem_table_id»)) header ∙ field ∙ given
+        where
+          field : some ((recordOf t) .oemTableId) ≡ recordField (recordOf t) f
+          field = rw (group, e)
+
+      pub id-field : groupNumber f ≡ 0 → (f % 16 ≡ 1 → ⊥) → some (reading .header .«oem_id») ≡ fieldFrom t f
+      unfolding recordField
+      id-field group e = ap (λ (h : Header). some (h .«oem_id»)) header ∙ field ∙ given
+        where
+          field : some ((recordOf t) .oemId) ≡ recordField (recordOf t) f
+          field = rw (group, ne-eqb (f % 16) 1 e)
 
   -- a structure's fields
-  module _ (group : firstSlotGroup ≤ groupNumber f) (field : FieldLayout) (is : field ≡ fieldOf f) where
+  module _ (group : firstSlotGroup ≤ groupNumber f) where
     abbrev pub slot : ℕ
     slot = groupNumber f - firstSlotGroup
 
-    structure-bytes : ifAccepted (checkOf t) (structureField (recordOf t) f) ≡ ofTable
+    structure-bytes : ifAccepted (checkOf t) (structureField (recordOf t) f) ≡ fieldFrom t f
     unfolding recordField
     structure-bytes = rw (ne-eqb (groupNumber f) 0 (omega arith), ne-eqb (groupNumber f) 1 (omega arith))
 
-    pub entry-field : (n : ℕ) → isText (field .notation) ≡ true → n ≡ entryNumber f
-        → ifAccepted (entryVerdict t n) (some (part t (offsetOf t n) (sizeOf t n))) ≡ ofTable
-    unfolding structureField entryVerdict recordOf listed contentOf
-    entry-field n text e =
-        reading-listed t ((contentOf t) .entry) (λ (x : Option (List ℕ)). x) entryCount n (holdsEntry t n) _ refl (λ h. refl)
-        ∙ (rw (← is, text, ← e) at structure-bytes)
+    -- a string, by the reading and the view of its entry
+    module _ (text : isText ((fieldOf f) .notation) ≡ true) (n : ℕ) (number : n ≡ entryNumber f) (reading : EntryReading) (is : reading ≡ entryOf t n) where
+      entry-shown : ifAccepted (entryVerdict t n) (some (viewOf t n)) ≡ fieldFrom t f
+      unfolding structureField entryVerdict recordOf listed contentOf viewOf
+      entry-shown =
+          shown-whole (entryVerdict t n) (part t (offsetOf t n) (sizeOf t n))
+          ∙ reading-listed t ((contentOf t) .entry) (λ (x : Option (List ℕ)). x) entryCount n (holdsEntry t n) _ refl (λ h. refl)
+          ∙ (rw (text, ← number) at structure-bytes)
 
-    field-fits : slot < slotCount → fits (bodySize (kindOf slot)) field ≡ true
-    unfolding fieldOf
-    field-fits h =
-        let same : firstSlotGroup + slot ≡ groupNumber f = omega arith in
-        rw (same, ← is) at (group-fits slot h (f % 16))
+      entry-number : reading .refusal .number ≡ (refusalOf (entryVerdict t n)) .number
+      unfolding entryOf
+      entry-number = ap (λ (r : EntryReading). r .refusal .number) is ∙ ap (λ (r : Refusal). r .number) (entry-refusal t n (entryVerdict t n))
 
-    pub structure-field : isText (field .notation) ≡ false
-        → ifAccepted (slotVerdict t slot) (some (part t (startOf t slot + field .at) (field .width))) ≡ ofTable
-    unfolding structureField slotVerdict recordOf listed contentOf
-    structure-field plain =
-        reading-listed t ((contentOf t) .structure) (Option·map (within field)) slotCount slot (present t slot) _ refl
-        (λ h. body-part t (present t slot) (startOf t slot) (bodySize (kindOf slot)) field
-        (fits-plain (bodySize (kindOf slot)) field plain (field-fits h)))
-        ∙ (rw (← is, plain) at structure-bytes)
+      pub entry-none : (reading .refusal .number ≡ 0 → ⊥) → none ≡ fieldFrom t f
+      entry-none h = refused-nothing (entryVerdict t n) _ (λ z. h (entry-number ∙ z)) ∙ entry-shown
+
+      pub entry-field : reading .refusal .number ≡ 0 → (view : List ℕ) → view ≡ viewOf t n → some view ≡ fieldFrom t f
+      unfolding entryVerdict
+      entry-field ok view e =
+          let accepted = reading-accepted t _ _ (entryVerdict t n) refl (sym entry-number ∙ ok) in
+          ap some e ∙ accepted-bytes (entryVerdict t n) (some (viewOf t n)) accepted ∙ entry-shown
+
+    -- another field, by the reading and the view of its structure
+    module _ (plain : isText ((fieldOf f) .notation) ≡ false) (reading : StructureReading) (is : reading ≡ structureOf t slot) where
+      field-fits : slot < slotCount → fits (bodySize (kindOf slot)) (fieldOf f) ≡ true
+      unfolding fieldOf
+      field-fits h =
+          let same : firstSlotGroup + slot ≡ groupNumber f = omega arith in
+          rw same at (group-fits slot h (f % 16))
+
+      structure-shown : ifAccepted (slotVerdict t slot) (some (part (structureIn t slot) ((fieldOf f) .at) ((fieldOf f) .width))) ≡ fieldFrom t f
+      unfolding structureField slotVerdict structureIn recordOf listed contentOf
+      structure-shown =
+          shown-part (slotVerdict t slot) t (startOf t slot) ((fieldOf f) .at) ((fieldOf f) .width)
+          ∙ reading-listed t ((contentOf t) .structure) (Option·map (within (fieldOf f))) slotCount slot (present t slot) _ refl
+          (λ h. body-part t (present t slot) (startOf t slot) (bodySize (kindOf slot)) (fieldOf f)
+          (fits-plain (bodySize (kindOf slot)) (fieldOf f) plain (field-fits h)))
+          ∙ (rw plain at structure-bytes)
+
+      structure-number : reading .refusal .number ≡ (refusalOf (slotVerdict t slot)) .number
+      unfolding structureOf
+      structure-number = ap (λ (r : StructureReading). r .refusal .number) is ∙ ap (λ (r : Refusal). r .number) (structure-refusal t slot (slotVerdict t slot))
+
+      pub structure-none : (reading .refusal .number ≡ 0 → ⊥) → none ≡ fieldFrom t f
+      structure-none h = refused-nothing (slotVerdict t slot) _ (λ z. h (structure-number ∙ z)) ∙ structure-shown
+
+      pub structure-field : reading .refusal .number ≡ 0 → (field : FieldLayout) → field ≡ fieldOf f
+          → (view bytes : List ℕ) → view ≡ structureIn t slot → bytes ≡ part view (field .at) (field .width) → some bytes ≡ fieldFrom t f
+      unfolding slotVerdict
+      structure-field ok field e view bytes shows is-part =
+          let accepted = reading-accepted t _ _ (slotVerdict t slot) refl (sym structure-number ∙ ok) in
+          let same : bytes ≡ part (structureIn t slot) ((fieldOf f) .at) ((fieldOf f) .width) = is-part ∙ rw (shows, e) in
+          ap some same ∙ accepted-bytes (slotVerdict t slot) _ accepted ∙ structure-shown
 
 -- a number that is a field, and one that is none
 module _ (t : List ℕ) (f : ℕ) (count : ℕ) (is : count ≡ fieldCount (groupNumber f)) where
-  pub number-field : f % 16 < count → ofTable t f ≡ bytesOf t f
+  pub number-field : f % 16 < count → fieldFrom t f ≡ bytesOf t f
   unfolding bytesOf bytesIn
   number-field h = rw (← is, lt-ltb (f % 16) count h)
 
@@ -232,13 +277,3 @@ module _ (f : ℕ) (bytes : List ℕ) where
   pub line-untold : isTold (fieldOf f) bytes ≡ false → [] ≡ lineOf f (some bytes)
   unfolding lineOf
   line-untold e = rw e
-
--- the line of a table's field, by the place of its bytes
-module _ (t : List ℕ) (f : ℕ) (place : Place) (is : shownAt t place ≡ bytesOf t f) where
-  pub tell-line : (view : List ℕ) → place .there ≡ true → view ≡ part t (place .at) (place .size) → lineOf f (some view) ≡ tellLine t f
-  unfolding tellLine
-  tell-line view on same = ap (λ (b : List ℕ). lineOf f (some b)) same ∙ ap (lineOf f) (rw on at is)
-
-  pub tell-nothing : place .there ≡ false → [] ≡ tellLine t f
-  unfolding tellLine lineOf
-  tell-nothing off = ap (lineOf f) (rw off at is)

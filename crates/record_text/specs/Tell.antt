@@ -7,14 +7,13 @@ use mathlib.Core.Option.{Option, none, some, Option·map}
 use lib.ListN.{getD}
 use lib.Dec.{eqb, ltb}
 use Rattle.octets.specs.Octets.{part, allZero}
-use Rattle.ibft_table.specs.Record.{Record, recordOf, shownIf}
+use Rattle.ibft_table.specs.Record.{Record, recordOf}
 use Rattle.ibft_table.specs.Check.{checkOf}
 use Rattle.ibft_table.specs.declared.verdict.Verdict.{Verdict}
 use Rattle.ibft_table.specs.declared.verdict.Verdict.the-variants.{Accepted, Refused}
 use Rattle.record_text.specs.Fields.{groupNumber, firstSlotGroup, isText, fieldOf, fieldCount, nameOf, entryOf}
 use Rattle.record_text.specs.Value.{fieldText}
 use Rattle.record_text.specs.declared.fields.Field.{Field as FieldLayout}
-use Rattle.record_text.specs.declared.tell.Place.{Place}
 
 -- ---- the bytes of field f in a record; `none` where its structure is absent or its string is missing
 
@@ -66,6 +65,6 @@ tellLine t f = lineOf f (bytesOf t f)
 
 -- ---- what the private functions say; a reader of the definitions above need not read it
 
--- the bytes of a table at a place, where they are there
-abbrev pub shownAt : List ℕ → Place → Option (List ℕ)
-shownAt t place = shownIf (place .there) (part t (place .at) (place .size))
+-- the bytes of field f of a table, where f is the number of a field
+abbrev pub fieldFrom : List ℕ → ℕ → Option (List ℕ)
+fieldFrom t f = ifAccepted (checkOf t) (recordField (recordOf t) f)

@@ -5,110 +5,21 @@ use crate::fields::field_count;
 use crate::fields::is_text;
 use crate::fields::put_name;
 use crate::value_text::put_value;
-use ibft_table::check::check;
+use ibft_table::entry::entry_view;
 use ibft_table::entry::read_entry;
+use ibft_table::header::read_header;
 use ibft_table::structure::read_structure;
-use ibft_table::verdict::Verdict;
+use ibft_table::structure::structure_view;
 use octets::read::part;
 use text::put::put_char;
 ghost use mathlib.Core.Path.{_≡_};
+ghost use mathlib.Core.Bool.{true, false};
 ghost use mathlib.Core.Option.{some};
-ghost use Prim.Native.Nat.{_+_};
-ghost use Rattle.octets.specs.Octets.{part, allZero};
+ghost use Prim.Native.Nat.{_≤_, _<_};
+ghost use Rattle.octets.specs.Octets.{allZero};
 ghost use Rattle.text.specs.Put.{Puts};
-ghost use Rattle.ibft_table.specs.Table.{startOf, sizeOf, offsetOf};
-ghost use Rattle.ibft_table.specs.Check.{checkOf};
-ghost use Rattle.ibft_table.specs.Readings.{slotVerdict, entryVerdict};
-ghost use Rattle.ibft_table.specs.Record.{recordOf};
-ghost use Rattle.record_text.specs.Fields.{fieldOf};
-ghost use Rattle.record_text.specs.Tell.{recordField, ifAccepted, bytesOf, isTold, lineOf, tellLine, shownAt};
-
-// Whether a table has the bytes of a field, and where they stand.
-struct Place {
-    there: bool,
-    at: usize,
-    size: usize,
-}
-
-// Bytes that stand in every table that the check accepts.
-fn header_place(t: &[u8], at: usize, size: usize) -> Place
-    ensures { λ r. ⌜ shownAt (now (t .entry)) r ≡ ifAccepted (checkOf (now (t .entry))) (some (part (now (t .entry)) at size)) ⌝ }
-{
-    match check(t) {
-        Verdict::Accepted => Place {
-            there: true,
-            at,
-            size,
-        },
-        Verdict::Refused(_) => Place {
-            there: false,
-            at: 0,
-            size: 0,
-        },
-    }
-}
-
-// Bytes of the structure of a slot. (No structure that is present starts at 0, and a reading that is refused says 0.)
-fn structure_place(t: &[u8], slot: u8, at: u16, size: u8) -> Place
-    ensures { λ r. ⌜ shownAt (now (t .entry)) r
-        ≡ ifAccepted (slotVerdict (now (t .entry)) slot) (some (part (now (t .entry)) (startOf (now (t .entry)) slot + at) size)) ⌝ }
-{
-    let start = read_structure(t, slot).start;
-    Place {
-        there: start != 0,
-        at: start as usize + at as usize,
-        size: size as usize,
-    }
-}
-
-// The bytes of entry n. (No string that is present stands at 0, and a reading that is refused says 0.)
-fn entry_place(t: &[u8], n: u8) -> Place
-    ensures { λ r. ⌜ shownAt (now (t .entry)) r
-        ≡ ifAccepted (entryVerdict (now (t .entry)) n) (some (part (now (t .entry)) (offsetOf (now (t .entry)) n) (sizeOf (now (t .entry)) n))) ⌝ }
-{
-    let entry = read_entry(t, n);
-    Place {
-        there: entry.offset != 0,
-        at: entry.offset as usize,
-        size: entry.length as usize,
-    }
-}
-
-// Where the bytes of field f stand. The OEM fields stand in the header, Control's flags at 53.
-fn field_place(t: &[u8], f: u8) -> Place
-    ensures { λ r. ⌜ shownAt (now (t .entry)) r ≡ ifAccepted (checkOf (now (t .entry))) (recordField (recordOf (now (t .entry))) f) ⌝ }
-{
-    let group = f / 16;
-    if group == 0 {
-        if f % 16 == 1 {
-            return header_place(t, 16, 8);
-        }
-        return header_place(t, 10, 6);
-    }
-    if group == 1 {
-        return header_place(t, 53, 1);
-    }
-    let field = field_at(f);
-    let notation = field.notation;
-    if is_text(notation) {
-        return entry_place(t, entry_of(f));
-    }
-    structure_place(t, group - 2, field.at, field.width)
-}
-
-// .. of number f, which may be past the last field of its group.
-fn place_of(t: &[u8], f: u8) -> Place
-    ensures { λ r. ⌜ shownAt (now (t .entry)) r ≡ bytesOf (now (t .entry)) f ⌝ }
-{
-    if f % 16 < field_count(f / 16) {
-        return field_place(t, f);
-    }
-    Place {
-        there: false,
-        at: 0,
-        size: 0,
-    }
-}
+ghost use Rattle.record_text.specs.Fields.{groupNumber, isText, fieldOf};
+ghost use Rattle.record_text.specs.Tell.{isTold, lineOf, tellLine, fieldFrom};
 
 // Whether all bytes are zero.
 fn all_zero(s: &[u8]) -> bool
@@ -151,14 +62,76 @@ fn put_field(room: &mut [u8], f: u8, bytes: &[u8]) -> usize
     put_char(room, value, b'\n')
 }
 
-// Puts the line that says field f of a table; nothing where it is not told, or where the check refuses the table. Answers the place
-// behind it.
+// Puts the line of an OEM field or of Control's flags, as the reading of the header gives them.
+fn put_header_line(room: &mut [u8], t: &[u8], f: u8) -> usize
+    requires { ⌜ groupNumber f < 2 ⌝ }
+    ensures { λ r. ⌜ Puts (now (room .entry)) (now (room .exit)) 0 r (lineOf f (fieldFrom (now (t .entry)) f)) ⌝ }
+{
+    let reading = read_header(t);
+    let refusal = reading.refusal;
+    if refusal.number != 0 {
+        return 0;
+    }
+    let header = reading.header;
+    if f / 16 == 1 {
+        let flags = [header.flags];
+        return put_field(room, f, &flags[..]);
+    }
+    if f % 16 == 1 {
+        let id = header.oem_table_id;
+        return put_field(room, f, &id[..]);
+    }
+    let id = header.oem_id;
+    put_field(room, f, &id[..])
+}
+
+// Puts the line of a string, of which the table shows a view.
+fn put_string_line(room: &mut [u8], t: &[u8], f: u8) -> usize
+    requires { ⌜ (2 ≤ groupNumber f) × (isText ((fieldOf f) .notation) ≡ true) ⌝ }
+    ensures { λ r. ⌜ Puts (now (room .entry)) (now (room .exit)) 0 r (lineOf f (fieldFrom (now (t .entry)) f)) ⌝ }
+{
+    let n = entry_of(f);
+    let refusal = read_entry(t, n).refusal;
+    if refusal.number != 0 {
+        return 0;
+    }
+    put_field(room, f, entry_view(t, n))
+}
+
+// Puts the line of another field of a structure, from the part of the table that starts at the structure.
+fn put_structure_line(room: &mut [u8], t: &[u8], f: u8) -> usize
+    requires { ⌜ (2 ≤ groupNumber f) × (isText ((fieldOf f) .notation) ≡ false) ⌝ }
+    ensures { λ r. ⌜ Puts (now (room .entry)) (now (room .exit)) 0 r (lineOf f (fieldFrom (now (t .entry)) f)) ⌝ }
+{
+    let slot = f / 16 - 2;
+    let refusal = read_structure(t, slot).refusal;
+    if refusal.number != 0 {
+        return 0;
+    }
+    let field = field_at(f);
+    let structure = structure_view(t, slot);
+    put_field(
+        room,
+        f,
+        part(structure, field.at as usize, field.width as usize),
+    )
+}
+
+// Puts the line that says field f of a table; nothing where it is not told, where there is no such field, or where the check refuses the
+// table. Answers the place behind it.
 pub fn put_line(room: &mut [u8], t: &[u8], f: u8) -> usize
     ensures { λ r. ⌜ Puts (now (room .entry)) (now (room .exit)) 0 r (tellLine (now (t .entry)) f) ⌝ }
 {
-    let place = place_of(t, f);
-    if !place.there {
+    if field_count(f / 16) <= f % 16 {
         return 0;
     }
-    put_field(room, f, part(t, place.at, place.size))
+    if f / 16 < 2 {
+        return put_header_line(room, t, f);
+    }
+    let field = field_at(f);
+    let notation = field.notation;
+    if is_text(notation) {
+        return put_string_line(room, t, f);
+    }
+    put_structure_line(room, t, f)
 }
