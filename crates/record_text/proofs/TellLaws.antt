@@ -4,7 +4,8 @@
 --     entry-none, entry-field                                .. by the reading and the view of an entry
 --     structure-none, structure-field                        .. by the reading and the view of a structure
 --     number-field, number-past                              .. of a number that is a field, and of one that is none
---     line-told, line-untold                                 a line, by a field's bytes
+--     line-hidden, line-told, line-untold, shown-plain       a line, by a field's bytes
+--     hidden-same, hidden-text-same, hidden-other            with secrets hidden a text does not hang on their bytes
 -- Assumes nothing.
 use mathlib.Core.Path.{_≡_, refl, sym, ap, _∙_}
 use mathlib.Core.List.{List, [], _∷_, _++_}
@@ -16,9 +17,9 @@ use native.Mathlib.Omega.{arith}
 use borrow.Author.Tests.{le-leb, lt-leb, lt-ltb, le-ltb, ne-eqb, leb-true}
 use lib.ListN.{getD, drop, List·getD-eq-default}
 use lib.Dec.{leb}
-use Rattle.octets.specs.Counting.{tabulate}
+use Rattle.octets.specs.Counting.{tabulate, gather}
 use Rattle.octets.specs.Octets.{part}
-use Rattle.octets.proofs.CountingLaws.{length-tabulate, getD-tabulate}
+use Rattle.octets.proofs.CountingLaws.{length-tabulate, getD-tabulate, gather-same}
 use Rattle.octets.proofs.ReadLaws.{part-within, part-from}
 use Rattle.octets.proofs.TestLaws.{and-both}
 use Rattle.text.specs.Split.{each}
@@ -39,7 +40,7 @@ use Rattle.ibft_table.proofs.VerdictLaws.{append-refused}
 use Rattle.ibft_table.proofs.ReadingLaws.{check-accepts, reading-accepted}
 use Rattle.ibft_laws.proofs.ReadingLaws.{header-gives}
 use Rattle.record_text.specs.Fields.{groupOf, groupNumber, firstSlotGroup, isText, fieldIn, fieldOf, fieldCount, entryOf as entryNumber}
-use Rattle.record_text.specs.Tell.{within, structureField, recordField, bytesIn, ifAccepted, bytesOf, isTold, lineWith, lineOf, fieldFrom}
+use Rattle.record_text.specs.Tell.{within, structureField, recordField, bytesIn, ifAccepted, bytesOf, isTold, lineWith, lineOf, tellLine, hiddenLine, shownLine, tellHidden, fieldFrom}
 use Rattle.record_text.specs.declared.fields.Field.{Field as FieldLayout}
 use Rattle.record_text.proofs.ValueLaws.{each-at}
 
@@ -269,11 +270,70 @@ module _ (t : List ℕ) (f : ℕ) (count : ℕ) (is : count ≡ fieldCount (grou
 
 -- ---- a line
 
-module _ (f : ℕ) (bytes : List ℕ) where
-  pub line-told : isTold (fieldOf f) bytes ≡ true → lineWith f bytes ≡ lineOf f (some bytes)
-  unfolding lineOf
-  line-told e = rw e
+module _ (hide : Bool) (f : ℕ) (bytes : List ℕ) (field : FieldLayout) (is : field ≡ fieldOf f) where
+  secret-is : (b : Bool) → (hide && field .secret) ≡ b → (hide && (fieldOf f) .secret) ≡ b
+  secret-is b e = ap (λ (x : FieldLayout). hide && x .secret) (sym is) ∙ e
 
-  pub line-untold : isTold (fieldOf f) bytes ≡ false → [] ≡ lineOf f (some bytes)
-  unfolding lineOf
-  line-untold e = rw e
+  pub line-hidden : (hide && field .secret) ≡ true → hiddenLine f ≡ shownLine hide f (some bytes)
+  unfolding shownLine
+  line-hidden e = rw (secret-is true e)
+
+  module _ (plain : (hide && field .secret) ≡ false) where
+    line-whole : lineOf f (some bytes) ≡ shownLine hide f (some bytes)
+    unfolding shownLine
+    line-whole = rw (secret-is false plain)
+
+    pub line-told : isTold (fieldOf f) bytes ≡ true → lineWith f bytes ≡ shownLine hide f (some bytes)
+    unfolding lineOf
+    line-told e = sym (rw e at (sym line-whole))
+
+    pub line-untold : isTold (fieldOf f) bytes ≡ false → [] ≡ shownLine hide f (some bytes)
+    unfolding lineOf
+    line-untold e = sym (rw e at (sym line-whole))
+
+-- where nothing is hidden
+pub shown-plain : (f : ℕ) (bytes : Option (List ℕ)) → shownLine false f bytes ≡ lineOf f bytes
+unfolding shownLine lineOf
+shown-plain f none = refl
+shown-plain f (some bytes) = refl
+
+-- ---- secrets that are hidden
+
+-- whether there are bytes
+abbrev pub isThere : Option (List ℕ) → Bool
+isThere none = false
+isThere (some bytes) = true
+
+-- two tables that agree on field f but for the bytes of a secret
+pub record Agree (t u : List ℕ) (f : ℕ) : Type 0 where
+  pub secret : (fieldOf f) .secret ≡ true → isThere (bytesOf t f) ≡ isThere (bytesOf u f)
+  pub other : (fieldOf f) .secret ≡ false → bytesOf t f ≡ bytesOf u f
+
+-- of a secret its line says only whether it is there
+hidden-there : (f : ℕ) (x y : Option (List ℕ)) → (fieldOf f) .secret ≡ true → isThere x ≡ isThere y → shownLine true f x ≡ shownLine true f y
+unfolding shownLine
+hidden-there f none none e same = refl
+hidden-there f none (some b) e same = absurd (let z : _≡_ {A = ℕ} 0 1 = cc in omega arith)
+hidden-there f (some a) none e same = absurd (let z : _≡_ {A = ℕ} 0 1 = cc in omega arith)
+hidden-there f (some a) (some b) e same = rw e
+
+pub hidden-same : (t u : List ℕ) (f : ℕ) → Agree t u f → tellHidden t f ≡ tellHidden u f
+unfolding tellHidden
+hidden-same t u f agree = go ((fieldOf f) .secret) refl
+  where
+    go : (b : Bool) → (fieldOf f) .secret ≡ b → shownLine true f (bytesOf t f) ≡ shownLine true f (bytesOf u f)
+    go true e = hidden-there f (bytesOf t f) (bytesOf u f) e (agree .secret e)
+    go false e = ap (shownLine true f) (agree .other e)
+
+-- the whole text with secrets hidden is the same for two tables that agree but for the bytes of secrets
+pub hidden-text-same : (t u : List ℕ) → ((f : ℕ) → Agree t u f) → (n : ℕ) → gather (tellHidden t) 0 n ≡ gather (tellHidden u) 0 n
+hidden-text-same t u agree n = gather-same (tellHidden t) (tellHidden u) 0 n (λ f l h. hidden-same t u f (agree f))
+
+-- a field that is no secret is told as ever
+pub hidden-other : (t : List ℕ) (f : ℕ) → (fieldOf f) .secret ≡ false → tellHidden t f ≡ tellLine t f
+unfolding tellHidden tellLine shownLine lineOf
+hidden-other t f plain = go (bytesOf t f)
+  where
+    go : (x : Option (List ℕ)) → shownLine true f x ≡ lineOf f x
+    go none = refl
+    go (some bytes) = sym (line-whole true f bytes (fieldOf f) refl plain)

@@ -48,6 +48,8 @@ cases =
     ∷ reads 8 (text ("initiator.name 12345678" ∷ []))
     ∷ stops noRoom 1 37 0 (text ("initiator.name 123456789" ∷ []))
     ∷ stops noRoom 2 106 7 (text ("initiator.name 1234567" ∷ "target1.reverse-secret \\x20\\x20" ∷ []))
+    -- a secret that was hidden is not given
+    ∷ reads 6 (text ("target0.chap-name depot7" ∷ "# target0.chap-secret is hidden" ∷ []))
     -- an empty string takes no room
     ∷ reads 8 (text ("initiator.name 12345678" ∷ "target1.reverse-secret \"\"" ∷ []))
     ∷ []

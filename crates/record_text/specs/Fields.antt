@@ -38,12 +38,15 @@ isOem Pci = false
 isOem Chap = false
 isOem Text = false
 
--- a field that is told where it is not zero; one that is told always
+-- a field that is told where it is not zero; one that is told always; a string that is a secret
 abbrev pub field : Notation → ℕ → ℕ → FieldLayout
-field notation at width = record { notation = notation; at = at; width = width; always = false }
+field notation at width = record { notation = notation; at = at; width = width; always = false; secret = false }
 
 abbrev pub always : Notation → ℕ → ℕ → FieldLayout
-always notation at width = record { notation = notation; at = at; width = width; always = true }
+always notation at width = record { notation = notation; at = at; width = width; always = true; secret = false }
+
+abbrev pub secret : ℕ → FieldLayout
+secret at = record { notation = Text; at = at; width = 4; always = false; secret = true }
 
 -- a kind of group: the names of its fields, as words; the fields in the same order, strings last; how many are no strings; its flags' names
 pub record Group : Type 0 where
@@ -111,9 +114,9 @@ target =
           ∷ field Number 33 1
           ∷ field Text 34 4
           ∷ field Text 38 4
-          ∷ field Text 42 4
+          ∷ secret 42
           ∷ field Text 46 4
-          ∷ field Text 50 4
+          ∷ secret 50
           ∷ [];
       plain = 6;
       flags = ascii "valid selected radius-chap radius-rchap";

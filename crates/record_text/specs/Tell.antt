@@ -2,11 +2,12 @@
 use Prim.Native.Nat.{ℕ, _+_, _-_, _%_}
 use Prim.Native.Char.{code}
 use mathlib.Core.List.{List, [], _∷_, _++_}
-use mathlib.Core.Bool.{Bool, cond, not, _||_}
+use mathlib.Core.Bool.{Bool, true, cond, not, _&&_, _||_}
 use mathlib.Core.Option.{Option, none, some, Option·map}
 use lib.ListN.{getD}
 use lib.Dec.{eqb, ltb}
 use Rattle.octets.specs.Octets.{part, allZero}
+use Rattle.text.specs.Put.{ascii}
 use Rattle.ibft_table.specs.Record.{Record, recordOf}
 use Rattle.ibft_table.specs.Check.{checkOf}
 use Rattle.ibft_table.specs.declared.verdict.Verdict.{Verdict}
@@ -62,6 +63,21 @@ lineOf f (some bytes) = cond (isTold (fieldOf f) bytes) (lineWith f bytes) []
 -- the line of field f of a table; nothing where it is not told
 unfoldable pub tellLine : List ℕ → ℕ → List ℕ
 tellLine t f = lineOf f (bytesOf t f)
+
+-- ---- a line where secrets are hidden
+
+-- in place of a secret's line: a comment, which says that there is one
+unfoldable pub hiddenLine : ℕ → List ℕ
+hiddenLine f = ascii "# " ++ (nameOf f ++ (ascii " is hidden" ++ (10 ∷ [])))
+
+-- the line of a field, of a secret that is to be hidden the comment
+unfoldable pub shownLine : Bool → ℕ → Option (List ℕ) → List ℕ
+shownLine hide f none = []
+shownLine hide f (some bytes) = cond (hide && (fieldOf f) .secret) (hiddenLine f) (lineOf f (some bytes))
+
+-- the line of field f of a table where secrets are hidden
+unfoldable pub tellHidden : List ℕ → ℕ → List ℕ
+tellHidden t f = shownLine true f (bytesOf t f)
 
 -- ---- what the private functions say; a reader of the definitions above need not read it
 

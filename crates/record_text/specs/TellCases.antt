@@ -16,7 +16,7 @@ use Rattle.notation.specs.Pci.{pciText}
 use Rattle.ibft_table.specs.Computing.{computing as of-tables}
 use Rattle.record_text.specs.Fields.{isText, groupOf, groupCount, fieldIn, fieldOf, fieldCount, entryOf, nameOf}
 use Rattle.record_text.specs.Value.{valueText}
-use Rattle.record_text.specs.Tell.{structureField, recordField, bytesIn, ifAccepted, bytesOf, isTold, lineWith, lineOf, tellLine}
+use Rattle.record_text.specs.Tell.{structureField, recordField, bytesIn, ifAccepted, bytesOf, isTold, lineWith, lineOf, tellLine, hiddenLine, shownLine, tellHidden}
 
 -- all lines of a table
 told : List ℕ → List ℕ
@@ -45,6 +45,10 @@ nic =
     ++ (0x20 ∷ 1 ∷ 0x0D ∷ 0xB8 ∷ (zeros 11 ++ (0x53 ∷ (zeros 32
     ++ (le16 70 ++ (2 ∷ 0 ∷ 0x5E ∷ 0x10 ∷ 0 ∷ 7 ∷ (le16 0x19 ++ zeros 4))))))))))))
 
+-- case 5 with two secrets: the CHAP secret `t7`, and an empty reverse secret
+secrets : List ℕ
+secrets = changed 114 (2 ∷ 0 ∷ 130 ∷ 0 ∷ []) (changed 122 (0 ∷ 0 ∷ 132 ∷ 0 ∷ []) case5)
+
 -- a table and its text
 record Case : Type 0 where
   table : List ℕ
@@ -71,6 +75,9 @@ cases =
     -- the same structure as Target 1
     ∷ tells (changed 60 (0 ∷ 0 ∷ 0 ∷ 0 ∷ 72 ∷ 0 ∷ []) (changed 76 (1 ∷ []) case5))
     ("control multi" ∷ "target1.flags valid" ∷ "target1.port 0" ∷ "target1.chap-name depot7" ∷ "target1.reverse-name 7" ∷ [])
+    ∷ tells secrets
+    ("control multi" ∷ "target0.flags valid" ∷ "target0.port 0" ∷ "target0.chap-name depot7" ∷ "target0.chap-secret t7" ∷ "target0.reverse-name 7"
+    ∷ "target0.reverse-secret \"\"" ∷ [])
     -- a table that the check refuses
     ∷ tells (write case5 9 (0 ∷ [])) []
     ∷ tells (take 132 case5) []
@@ -82,5 +89,16 @@ ended [] = []
 ended (l ∷ ls) = l ++ (10 ∷ ended ls)
 
 all-told : map (λ (c : Case). told (c .table)) cases ≡ map (λ (c : Case). ended (c .text)) cases
-unfolding of-tables of-text digitByte digitsWithin digits padded byteText textAt stringText zeroRun longest groupsText fourText sixText isMapped addressText macText pciText isText groupOf fieldIn fieldOf fieldCount entryOf nameOf valueText structureField recordField bytesIn ifAccepted bytesOf isTold lineWith lineOf tellLine told case5 changed nic tells cases ended
+unfolding of-tables of-text digitByte digitsWithin digits padded byteText textAt stringText zeroRun longest groupsText fourText sixText isMapped addressText macText pciText isText groupOf fieldIn fieldOf fieldCount entryOf nameOf valueText structureField recordField bytesIn ifAccepted bytesOf isTold lineWith lineOf tellLine told case5 changed nic secrets tells cases ended
 all-told = refl
+
+-- with secrets hidden a comment stands in place of each; a table without any is told as ever
+hidden-told : map (λ (t : List ℕ). gather (tellHidden t) 0 (16 * groupCount)) (secrets ∷ case5 ∷ take 132 case5 ∷ [])
+    ≡ ended
+    (ascii "control multi" ∷ ascii "target0.flags valid" ∷ ascii "target0.port 0" ∷ ascii "target0.chap-name depot7" ∷ ascii "# target0.chap-secret is hidden"
+    ∷ ascii "target0.reverse-name 7" ∷ ascii "# target0.reverse-secret is hidden" ∷ [])
+    ∷ ended
+    (ascii "control multi" ∷ ascii "target0.flags valid" ∷ ascii "target0.port 0" ∷ ascii "target0.chap-name depot7" ∷ ascii "target0.reverse-name 7" ∷ [])
+    ∷ [] ∷ []
+unfolding of-tables of-text digitByte digitsWithin digits padded byteText textAt stringText zeroRun longest groupsText fourText sixText isMapped addressText macText pciText isText groupOf fieldIn fieldOf fieldCount entryOf nameOf valueText structureField recordField bytesIn ifAccepted bytesOf isTold lineWith lineOf hiddenLine shownLine tellHidden case5 changed secrets ended
+hidden-told = refl

@@ -11,7 +11,7 @@ ghost use Prim.Native.Nat.{_+_, _-_, _≤_, _<_};
 ghost use Rattle.text.specs.Put.{Puts};
 ghost use Rattle.text.specs.Words.{wordAt, wordNumber};
 ghost use Rattle.ibft_table.specs.Layout.{firstEntry};
-ghost use Rattle.record_text.specs.Fields.{field, always, oem, initiator, nic, target, groupOf, fieldIn, fieldOf, fieldCount, isText, isOem, entryOf, dotted, nameOf, found, fieldNamed};
+ghost use Rattle.record_text.specs.Fields.{field, always, secret, oem, initiator, nic, target, groupOf, fieldIn, fieldOf, fieldCount, isText, isOem, entryOf, dotted, nameOf, found, fieldNamed};
 
 // How a field's value is written.
 pub enum Notation {
@@ -27,12 +27,14 @@ pub enum Notation {
 }
 
 // A field: how its value is written; where it stands, for a structure's field in the structure's image, else in the record range; how
-// many bytes it has there (a string's are its two words); whether it is told where it is zero, too.
+// many bytes it has there (a string's are its two words); whether it is told where it is zero, too; whether it is a secret, which can be
+// hidden.
 pub struct Field {
     pub notation: Notation,
     pub at: u16,
     pub width: u8,
     pub always: bool,
+    pub secret: bool,
 }
 
 // What a name names.
@@ -84,6 +86,7 @@ fn layout(notation: Notation, at: u16, width: u8) -> Field
         at,
         width,
         always: false,
+        secret: false,
     }
 }
 
@@ -96,6 +99,20 @@ fn told(notation: Notation, at: u16, width: u8) -> Field
         at,
         width,
         always: true,
+        secret: false,
+    }
+}
+
+// A string that is a secret.
+fn secret(at: u16) -> Field
+    ensures { λ r. ⌜ r ≡ secret at ⌝ }
+{
+    Field {
+        notation: Notation::Text,
+        at,
+        width: 4,
+        always: false,
+        secret: true,
     }
 }
 
@@ -155,9 +172,9 @@ fn target_field(n: u8) -> Field
         5 => layout(Notation::Number, 33, 1),
         6 => layout(Notation::Text, 34, 4),
         7 => layout(Notation::Text, 38, 4),
-        8 => layout(Notation::Text, 42, 4),
+        8 => secret(42),
         9 => layout(Notation::Text, 46, 4),
-        10 => layout(Notation::Text, 50, 4),
+        10 => secret(50),
         _ => told(Notation::Flags, 5, 1),
     }
 }

@@ -12,6 +12,7 @@ use ibft_table::structure::read_structure;
 use ibft_table::structure::structure_view;
 use octets::read::part;
 use text::put::put_char;
+use text::put::put_text;
 ghost use mathlib.Core.Path.{_≡_};
 ghost use mathlib.Core.Bool.{true, false};
 ghost use mathlib.Core.Option.{some};
@@ -19,7 +20,7 @@ ghost use Prim.Native.Nat.{_≤_, _<_};
 ghost use Rattle.octets.specs.Octets.{allZero};
 ghost use Rattle.text.specs.Put.{Puts};
 ghost use Rattle.record_text.specs.Fields.{groupNumber, isText, fieldOf};
-ghost use Rattle.record_text.specs.Tell.{isTold, lineOf, tellLine, fieldFrom};
+ghost use Rattle.record_text.specs.Tell.{bytesOf, isTold, tellLine, hiddenLine, shownLine, tellHidden, fieldFrom};
 
 // Whether all bytes are zero.
 fn all_zero(s: &[u8]) -> bool
@@ -49,10 +50,23 @@ fn is_told(f: u8, bytes: &[u8]) -> bool
     !all_zero(bytes)
 }
 
-// Puts the line that says field f, where it has these bytes; nothing where it is not told.
-fn put_field(room: &mut [u8], f: u8, bytes: &[u8]) -> usize
-    ensures { λ r. ⌜ Puts (now (room .entry)) (now (room .exit)) 0 r (lineOf f (some (now (bytes .entry)))) ⌝ }
+// Puts the line that stands in place of a secret's: a comment, which says that there is one.
+fn put_hidden(room: &mut [u8], f: u8) -> usize
+    ensures { λ r. ⌜ Puts (now (room .entry)) (now (room .exit)) 0 r (hiddenLine f) ⌝ }
 {
+    let mark = put_text(room, 0, b"# ");
+    let name = put_name(room, mark, f);
+    put_text(room, name, b" is hidden\n")
+}
+
+// Puts the line that says field f, where it has these bytes; nothing where it is not told.
+fn put_field(room: &mut [u8], hide: bool, f: u8, bytes: &[u8]) -> usize
+    ensures { λ r. ⌜ Puts (now (room .entry)) (now (room .exit)) 0 r (shownLine hide f (some (now (bytes .entry)))) ⌝ }
+{
+    let field = field_at(f);
+    if hide & field.secret {
+        return put_hidden(room, f);
+    }
     if !is_told(f, bytes) {
         return 0;
     }
@@ -63,9 +77,9 @@ fn put_field(room: &mut [u8], f: u8, bytes: &[u8]) -> usize
 }
 
 // Puts the line of an OEM field or of Control's flags, as the reading of the header gives them.
-fn put_header_line(room: &mut [u8], t: &[u8], f: u8) -> usize
+fn put_header_line(room: &mut [u8], hide: bool, t: &[u8], f: u8) -> usize
     requires { ⌜ groupNumber f < 2 ⌝ }
-    ensures { λ r. ⌜ Puts (now (room .entry)) (now (room .exit)) 0 r (lineOf f (fieldFrom (now (t .entry)) f)) ⌝ }
+    ensures { λ r. ⌜ Puts (now (room .entry)) (now (room .exit)) 0 r (shownLine hide f (fieldFrom (now (t .entry)) f)) ⌝ }
 {
     let reading = read_header(t);
     let refusal = reading.refusal;
@@ -75,33 +89,33 @@ fn put_header_line(room: &mut [u8], t: &[u8], f: u8) -> usize
     let header = reading.header;
     if f / 16 == 1 {
         let flags = [header.flags];
-        return put_field(room, f, &flags[..]);
+        return put_field(room, hide, f, &flags[..]);
     }
     if f % 16 == 1 {
         let id = header.oem_table_id;
-        return put_field(room, f, &id[..]);
+        return put_field(room, hide, f, &id[..]);
     }
     let id = header.oem_id;
-    put_field(room, f, &id[..])
+    put_field(room, hide, f, &id[..])
 }
 
 // Puts the line of a string, of which the table shows a view.
-fn put_string_line(room: &mut [u8], t: &[u8], f: u8) -> usize
+fn put_string_line(room: &mut [u8], hide: bool, t: &[u8], f: u8) -> usize
     requires { ⌜ (2 ≤ groupNumber f) × (isText ((fieldOf f) .notation) ≡ true) ⌝ }
-    ensures { λ r. ⌜ Puts (now (room .entry)) (now (room .exit)) 0 r (lineOf f (fieldFrom (now (t .entry)) f)) ⌝ }
+    ensures { λ r. ⌜ Puts (now (room .entry)) (now (room .exit)) 0 r (shownLine hide f (fieldFrom (now (t .entry)) f)) ⌝ }
 {
     let n = entry_of(f);
     let refusal = read_entry(t, n).refusal;
     if refusal.number != 0 {
         return 0;
     }
-    put_field(room, f, entry_view(t, n))
+    put_field(room, hide, f, entry_view(t, n))
 }
 
 // Puts the line of another field of a structure, from the part of the table that starts at the structure.
-fn put_structure_line(room: &mut [u8], t: &[u8], f: u8) -> usize
+fn put_structure_line(room: &mut [u8], hide: bool, t: &[u8], f: u8) -> usize
     requires { ⌜ (2 ≤ groupNumber f) × (isText ((fieldOf f) .notation) ≡ false) ⌝ }
-    ensures { λ r. ⌜ Puts (now (room .entry)) (now (room .exit)) 0 r (lineOf f (fieldFrom (now (t .entry)) f)) ⌝ }
+    ensures { λ r. ⌜ Puts (now (room .entry)) (now (room .exit)) 0 r (shownLine hide f (fieldFrom (now (t .entry)) f)) ⌝ }
 {
     let slot = f / 16 - 2;
     let refusal = read_structure(t, slot).refusal;
@@ -112,9 +126,28 @@ fn put_structure_line(room: &mut [u8], t: &[u8], f: u8) -> usize
     let structure = structure_view(t, slot);
     put_field(
         room,
+        hide,
         f,
         part(structure, field.at as usize, field.width as usize),
     )
+}
+
+// Puts the line that says field f of a table, by the reading that gives its bytes; nothing where there is no such field.
+fn put_shown(room: &mut [u8], hide: bool, t: &[u8], f: u8) -> usize
+    ensures { λ r. ⌜ Puts (now (room .entry)) (now (room .exit)) 0 r (shownLine hide f (bytesOf (now (t .entry)) f)) ⌝ }
+{
+    if field_count(f / 16) <= f % 16 {
+        return 0;
+    }
+    if f / 16 < 2 {
+        return put_header_line(room, hide, t, f);
+    }
+    let field = field_at(f);
+    let notation = field.notation;
+    if is_text(notation) {
+        return put_string_line(room, hide, t, f);
+    }
+    put_structure_line(room, hide, t, f)
 }
 
 // Puts the line that says field f of a table; nothing where it is not told, where there is no such field, or where the check refuses the
@@ -122,16 +155,12 @@ fn put_structure_line(room: &mut [u8], t: &[u8], f: u8) -> usize
 pub fn put_line(room: &mut [u8], t: &[u8], f: u8) -> usize
     ensures { λ r. ⌜ Puts (now (room .entry)) (now (room .exit)) 0 r (tellLine (now (t .entry)) f) ⌝ }
 {
-    if field_count(f / 16) <= f % 16 {
-        return 0;
-    }
-    if f / 16 < 2 {
-        return put_header_line(room, t, f);
-    }
-    let field = field_at(f);
-    let notation = field.notation;
-    if is_text(notation) {
-        return put_string_line(room, t, f);
-    }
-    put_structure_line(room, t, f)
+    put_shown(room, false, t, f)
+}
+
+// The same where secrets are hidden: in place of a secret's line a comment says that there is one.
+pub fn put_line_hidden(room: &mut [u8], t: &[u8], f: u8) -> usize
+    ensures { λ r. ⌜ Puts (now (room .entry)) (now (room .exit)) 0 r (tellHidden (now (t .entry)) f) ⌝ }
+{
+    put_shown(room, true, t, f)
 }

@@ -1,13 +1,17 @@
 // Tells what a table holds: reads a table, up to 4,096 bytes of standard input, and writes its record as text (docs/RECORD-FORMAT.md), or the one
-// refusal that applies.
+// refusal that applies. `tell hide-secrets` tells no secret: a comment stands in its place.
 use ibft_table::check::check;
 use ibft_table::verdict::Verdict;
 use octets::read::part;
 use record_text::tell::put_line;
+use record_text::tell::put_line_hidden;
+use text::split::same;
 
 const STDIN: i32 = 0;
 
 const STDOUT: i32 = 1;
+
+const STDERR: i32 = 2;
 
 // Field numbers are below this: 16 for each of the seven groups.
 const FIELD_NUMBERS: u8 = 112;
@@ -24,26 +28,51 @@ fn print_refusal(number: u8, place: u32) {
     print(b"\n");
 }
 
+fn put_told(room: &mut [u8], t: &[u8], field: u8, hide: bool) -> usize {
+    if hide {
+        return put_line_hidden(room, t, field);
+    }
+    put_line(room, t, field)
+}
+
 // The line of a field. (The longest is that of a string of 255 bytes, each written with four: there is room for it.)
-fn tell_field(t: &[u8], field: u8) {
+fn tell_field(t: &[u8], field: u8, hide: bool) {
     let mut room = [0u8; 2048];
-    let end = put_line(&mut room, t, field);
+    let end = put_told(&mut room, t, field, hide);
     print(part(&room, 0, end));
 }
 
 // The fields in their order. (Of the numbers that are no field nothing is told.)
-fn tell(t: &[u8]) {
+fn tell(t: &[u8], hide: bool) {
     for field in 0..FIELD_NUMBERS {
-        tell_field(t, field);
+        tell_field(t, field, hide);
     }
 }
 
-fn main() {
+fn tell_input(hide: bool) {
     let mut input = io::buffer();
     let n = io::read_full(STDIN, &mut input);
     let t = part(&input, 0, n);
     match check(t) {
-        Verdict::Accepted => tell(t),
+        Verdict::Accepted => tell(t, hide),
         Verdict::Refused(refusal) => print_refusal(refusal.number, refusal.place),
     }
+}
+
+// With a word that it does not know it tells nothing: it may have been meant to hide the secrets.
+fn main() {
+    let mut word = [0u8; 32];
+    let n = os::arg(1, &mut word);
+    if n == 0 {
+        tell_input(false);
+        return;
+    }
+    if same(part(&word, 0, n), b"hide-secrets") {
+        tell_input(true);
+        return;
+    }
+    io::write_all(
+        STDERR,
+        b"tell: the one word that may follow is hide-secrets\n",
+    );
 }

@@ -5,10 +5,10 @@ use Rattle.tell.proofs.tell.Statement.{statement}
 use Rattle.tell.proofs.tell.Tie as tie
 
 abbrev Inv-loop : tie.InvT-loop
-Inv-loop t field₀ field = field ≤ 112
+Inv-loop t hide field₀ field = field ≤ 112
 
 abbrev μ-loop : tie.MeasureT-loop
-μ-loop t field₀ field = 112 - field
+μ-loop t hide field₀ field = 112 - field
 
 pub tell-spec : {M : Type 1} → statement M
 tell-spec =

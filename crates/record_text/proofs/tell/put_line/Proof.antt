@@ -1,57 +1,16 @@
--- `put_line` meets its contract: the field's group, and whether it is a string, say which reading gives its bytes. Assumes nothing.
-use mathlib.Core.Path.{_≡_, sym, ap, _∙_}
-use mathlib.Core.Bool.{true, false}
-use Prim.Native.Nat.{_≤_}
-use native.Mathlib.Omega.{arith}
-use Rattle.text.proofs.PutLaws.{puts-nothing, puts-same}
-use Rattle.record_text.specs.Fields.{isText, fieldOf, groupNumber}
-use Rattle.record_text.specs.Tell.{lineOf, tellLine}
-use Rattle.record_text.specs.declared.fields.Field.{Field}
-use Rattle.record_text.proofs.TellLaws.{number-field, number-past}
+-- `put_line` meets its contract: nothing is hidden. Assumes nothing.
+use Rattle.text.proofs.PutLaws.{puts-same}
+use Rattle.record_text.specs.Tell.{bytesOf, tellLine}
+use Rattle.record_text.proofs.TellLaws.{shown-plain}
 use borrow.Author.Needs.{needs}
 use Rattle.record_text.proofs.tell.put_line.Statement.{statement}
 use Rattle.record_text.proofs.tell.put_line.Tie as tie
 
 returns : tie.Need-returns
-unfolding lineOf tellLine
+unfolding tellLine
 returns c =
-    let a = c .before .before .before .before .args in
-    let count = c .before .field-count in
-    puts-same (puts-nothing _ 0 (search needs)) (ap (lineOf (a .f)) (number-past (a .t .now) (a .f) (count .result) (count .ensures) (omega arith)))
-
-returns-2 : tie.Need-returns-2
-unfolding tellLine
-returns-2 c =
-    let a = c .before .before .before .before .before .before .before .before .before .args in
-    let count = c .before .before .before .before .before .before .field-count in
-    puts-same (c .before .before .put-header-line .ensures)
-    (ap (lineOf (a .f)) (number-field (a .t .now) (a .f) (count .result) (count .ensures) (omega arith)))
-
--- which kind of field it is
-kind : (c : tie.After-is-text) → c .is-text .result ≡ isText ((fieldOf (c .before .before .before .before .before .before .before .args .f)) .notation)
-kind c = c .is-text .ensures ∙ ap (λ (x : Field). isText (x .notation)) (c .before .field-at .ensures)
-
-string-requires : tie.Need-put-string-line-requires
-string-requires c κs = (omega arith, sym (kind (c .before .before)) ∙ c .before .if3 .taken)
-
-returns-3 : tie.Need-returns-3
-unfolding tellLine
-returns-3 c =
-    let a = c .before .before .before .before .before .before .before .before .before .before .before .before .args in
-    let count = c .before .before .before .before .before .before .before .before .before .field-count in
-    puts-same (c .before .before .put-string-line .ensures)
-    (ap (lineOf (a .f)) (number-field (a .t .now) (a .f) (count .result) (count .ensures) (omega arith)))
-
-structure-requires : tie.Need-put-structure-line-requires
-structure-requires c κs = (omega arith, sym (kind (c .before .before)) ∙ c .before .if3 .left)
-
-returns-4 : tie.Need-returns-4
-unfolding tellLine
-returns-4 c =
-    let a = c .before .before .before .before .before .before .before .before .before .before .before .before .args in
-    let count = c .before .before .before .before .before .before .before .before .before .field-count in
-    puts-same (c .before .before .put-structure-line .ensures)
-    (ap (lineOf (a .f)) (number-field (a .t .now) (a .f) (count .result) (count .ensures) (omega arith)))
+    let a = c .before .before .before .before .before .before .args in
+    puts-same (c .before .before .put-shown .ensures) (shown-plain (a .f) (bytesOf (a .t .now) (a .f)))
 
 pub put-line-spec : {M : Type 1} → statement M
-put-line-spec = tie.close (tie.spec (search needs) returns (search needs) (search needs) returns-2 (search needs) (search needs) string-requires (search needs) returns-3 structure-requires (search needs) returns-4)
+put-line-spec = tie.close (tie.spec (search needs) (search needs) returns)

@@ -1,20 +1,20 @@
 -- `put_structure_line` meets its contract: a part of what the view of the structure shows, nothing where its reading is refused. Assumes nothing.
 use mathlib.Core.Path.{ap}
 use Rattle.text.proofs.PutLaws.{puts-nothing, puts-same}
-use Rattle.record_text.specs.Tell.{lineOf}
+use Rattle.record_text.specs.Tell.{shownLine}
 use Rattle.record_text.proofs.TellLaws.{structure-none, structure-field}
 use borrow.Author.Needs.{needs}
 use Rattle.record_text.proofs.tell.put_structure_line.Statement.{statement}
 use Rattle.record_text.proofs.tell.put_structure_line.Tie as tie
 
 returns : tie.Need-returns
-unfolding lineOf
+unfolding shownLine
 returns c =
     let start = c .before .before .before .before .before .before in
     let a = start .args in
     let reading = c .before .before .before .read-structure in
     puts-same (puts-nothing _ 0 (search needs))
-    (ap (lineOf (a .f)) (structure-none (a .t .now) (a .f) (start .pre .0) (start .pre .1) (reading .result) (reading .ensures) (c .if1 .taken)))
+    (ap (shownLine (a .hide) (a .f)) (structure-none (a .t .now) (a .f) (start .pre .0) (start .pre .1) (reading .result) (reading .ensures) (c .if1 .taken)))
 
 returns-2 : tie.Need-returns-2
 returns-2 c =
@@ -24,7 +24,7 @@ returns-2 c =
     let field = c .before .before .before .before .before .before .before .before .field-at in
     let view = c .before .before .before .before .before .before .before .structure-view in
     puts-same (c .before .before .put-field .ensures)
-    (ap (lineOf (a .f))
+    (ap (shownLine (a .hide) (a .f))
     (structure-field (a .t .now) (a .f) (start .pre .0) (start .pre .1) (reading .result) (reading .ensures) (c .before .before .before .before .before .before .before .before .before .if1 .left)
     (field .result) (field .ensures) _ _ (view .ensures .view-is) (c .before .before .before .part .ensures .bytes)))
 
