@@ -4,3 +4,4 @@ pub mod ValueBackLaws
 pub mod WidthLaws
 pub mod EnterLaws
 pub mod TellLaws
+pub mod ToldBackLaws

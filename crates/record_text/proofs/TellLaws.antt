@@ -200,14 +200,18 @@ module _ (t : List ℕ) (f : ℕ) where
     unfolding recordField
     structure-bytes = rw (ne-eqb (groupNumber f) 0 (omega arith), ne-eqb (groupNumber f) 1 (omega arith))
 
-    -- a string, by the reading and the view of its entry
+    -- a string, as a part of the table; by the reading and the view of its entry
+    pub entry-part : isText ((fieldOf f) .notation) ≡ true → (n : ℕ) → n ≡ entryNumber f
+        → ifAccepted (entryVerdict t n) (some (part t (offsetOf t n) (sizeOf t n))) ≡ fieldFrom t f
+    unfolding structureField entryVerdict recordOf listed contentOf
+    entry-part text n number =
+        reading-listed t ((contentOf t) .entry) (λ (x : Option (List ℕ)). x) entryCount n (holdsEntry t n) _ refl (λ h. refl)
+        ∙ (rw (text, ← number) at structure-bytes)
+
     module _ (text : isText ((fieldOf f) .notation) ≡ true) (n : ℕ) (number : n ≡ entryNumber f) (reading : EntryReading) (is : reading ≡ entryOf t n) where
       entry-shown : ifAccepted (entryVerdict t n) (some (viewOf t n)) ≡ fieldFrom t f
-      unfolding structureField entryVerdict recordOf listed contentOf viewOf
-      entry-shown =
-          shown-whole (entryVerdict t n) (part t (offsetOf t n) (sizeOf t n))
-          ∙ reading-listed t ((contentOf t) .entry) (λ (x : Option (List ℕ)). x) entryCount n (holdsEntry t n) _ refl (λ h. refl)
-          ∙ (rw (text, ← number) at structure-bytes)
+      unfolding viewOf
+      entry-shown = shown-whole (entryVerdict t n) (part t (offsetOf t n) (sizeOf t n)) ∙ entry-part text n number
 
       entry-number : reading .refusal .number ≡ (refusalOf (entryVerdict t n)) .number
       unfolding entryOf
@@ -222,22 +226,25 @@ module _ (t : List ℕ) (f : ℕ) where
           let accepted = reading-accepted t _ _ (entryVerdict t n) refl (sym entry-number ∙ ok) in
           ap some e ∙ accepted-bytes (entryVerdict t n) (some (viewOf t n)) accepted ∙ entry-shown
 
-    -- another field, by the reading and the view of its structure
-    module _ (plain : isText ((fieldOf f) .notation) ≡ false) (reading : StructureReading) (is : reading ≡ structureOf t slot) where
-      field-fits : slot < slotCount → fits (bodySize (kindOf slot)) (fieldOf f) ≡ true
+    -- another field, as a part of the table; by the reading and the view of its structure
+    module _ (plain : isText ((fieldOf f) .notation) ≡ false) where
+      pub structure-fits : slot < slotCount → (5 ≤ (fieldOf f) .at) × ((fieldOf f) .at + (fieldOf f) .width ≤ 5 + bodySize (kindOf slot))
       unfolding fieldOf
-      field-fits h =
+      structure-fits h =
           let same : firstSlotGroup + slot ≡ groupNumber f = omega arith in
-          rw same at (group-fits slot h (f % 16))
+          fits-plain (bodySize (kindOf slot)) (fieldOf f) plain (rw same at (group-fits slot h (f % 16)))
 
-      structure-shown : ifAccepted (slotVerdict t slot) (some (part (structureIn t slot) ((fieldOf f) .at) ((fieldOf f) .width))) ≡ fieldFrom t f
-      unfolding structureField slotVerdict structureIn recordOf listed contentOf
-      structure-shown =
-          shown-part (slotVerdict t slot) t (startOf t slot) ((fieldOf f) .at) ((fieldOf f) .width)
-          ∙ reading-listed t ((contentOf t) .structure) (Option·map (within (fieldOf f))) slotCount slot (present t slot) _ refl
-          (λ h. body-part t (present t slot) (startOf t slot) (bodySize (kindOf slot)) (fieldOf f)
-          (fits-plain (bodySize (kindOf slot)) (fieldOf f) plain (field-fits h)))
+      pub structure-part : ifAccepted (slotVerdict t slot) (some (part t (startOf t slot + (fieldOf f) .at) ((fieldOf f) .width))) ≡ fieldFrom t f
+      unfolding structureField slotVerdict recordOf listed contentOf
+      structure-part =
+          reading-listed t ((contentOf t) .structure) (Option·map (within (fieldOf f))) slotCount slot (present t slot) _ refl
+          (λ h. body-part t (present t slot) (startOf t slot) (bodySize (kindOf slot)) (fieldOf f) (structure-fits h))
           ∙ (rw plain at structure-bytes)
+
+    module _ (plain : isText ((fieldOf f) .notation) ≡ false) (reading : StructureReading) (is : reading ≡ structureOf t slot) where
+      structure-shown : ifAccepted (slotVerdict t slot) (some (part (structureIn t slot) ((fieldOf f) .at) ((fieldOf f) .width))) ≡ fieldFrom t f
+      unfolding structureIn
+      structure-shown = shown-part (slotVerdict t slot) t (startOf t slot) ((fieldOf f) .at) ((fieldOf f) .width) ∙ structure-part plain
 
       structure-number : reading .refusal .number ≡ (refusalOf (slotVerdict t slot)) .number
       unfolding structureOf

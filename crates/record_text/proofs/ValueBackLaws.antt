@@ -141,7 +141,7 @@ zeros-are (b ∷ t) e =
     let both = and-both (eqb b 0) (allZero t) e in
     rw (eqb-true b 0 (both .0), zeros-are t (both .1))
 
-take-small : (t : List ℕ) (n : ℕ) → Small t → Small (take n t)
+pub take-small : (t : List ℕ) (n : ℕ) → Small t → Small (take n t)
 take-small [] zero h i = omega arith
 take-small [] (suc n) h i = h i
 take-small (b ∷ t) zero h i = omega arith
