@@ -5,3 +5,4 @@ pub mod WidthLaws
 pub mod EnterLaws
 pub mod TellLaws
 pub mod ToldBackLaws
+pub mod LineBackLaws

@@ -1,5 +1,6 @@
 -- What a table tells of a field reads back: the field has as many bytes as its layout says, and such as have a text, since the check lets
 -- no others through.
+--     told-number, told-group, told-said     a number that is told is that of a field, and its bytes have a text
 --     told-value      the text of a field that is no string, read, is the bytes that the table has
 --     told-string     .. of a string
 -- Assumes nothing.
@@ -15,7 +16,7 @@ use borrow.Author.Tests.{eqb-true, ltb-true, leb-true, leb-false, not-true, not-
 use lib.Bits.{bitAnd, and-high}
 use lib.Pow.{shr-mod, pow-pos}
 use lib.ListN.{length, drop}
-use lib.Seq.{getD-drop}
+use lib.Seq.{getD-drop, drop-cons}
 use lib.Dec.{eqb, leb, ltb}
 use Rattle.octets.specs.Octets.{byte, part}
 use Rattle.octets.proofs.CountingLaws.{clash}
@@ -26,24 +27,25 @@ use Rattle.text.specs.Words.{wordCount, goodList}
 use Rattle.text.specs.Computing.{computing}
 use Rattle.notation.specs.Escape.{stringOf, stringText}
 use Rattle.notation.proofs.EscapeLaws.{string-back}
-use Rattle.ibft_table.specs.Layout.{Kind, slotCount, entryCount, slotOf, kindOf, chapAt}
-use Rattle.ibft_table.specs.Verdict.{Test, refuse, firstOf}
-use Rattle.ibft_table.specs.Table.{startOf, present, endOf, offsetOf, sizeOf, holdsEntry}
+use Rattle.ibft_table.specs.Layout.{slotCount, slotOf, kindOf, chapAt}
+use Rattle.ibft_table.specs.Verdict.{refuse, firstOf}
+use Rattle.ibft_table.specs.Table.{startOf, present, endOf, offsetOf, sizeOf}
 use Rattle.ibft_table.specs.Check.{padded, checkTests, checkOf}
-use Rattle.ibft_table.specs.Record.{recordOf, listed, contentOf, bodySize}
-use Rattle.ibft_table.specs.Readings.{slotVerdict, structureOf, entryVerdict, entryOf}
+use Rattle.ibft_table.specs.Record.{recordOf, listed, contentOf}
+use Rattle.ibft_table.specs.Readings.{slotVerdict, entryVerdict}
 use Rattle.ibft_table.specs.declared.verdict.Verdict.{Verdict}
 use Rattle.ibft_table.specs.declared.verdict.Verdict.the-variants.{Accepted, Refused}
 use Rattle.ibft_table.proofs.VerdictLaws.{passes, append-passes}
 use Rattle.ibft_laws.specs.Facts.{HeaderFacts, SlotFacts}
 use Rattle.ibft_laws.proofs.AcceptedLaws.{accepted-facts}
 use Rattle.ibft_laws.proofs.LayoutLaws.{slot-fits}
-use Rattle.record_text.specs.Fields.{Group, oem, groups, groupOf, groupNumber, firstSlotGroup, isText, field, always, fieldIn, fieldOf, fieldCount, entryOf as entryNumber}
+use Rattle.record_text.specs.Fields.{Group, oem, groups, groupCount, groupOf, groupNumber, firstSlotGroup, isText, field, always, fieldIn, fieldOf, fieldCount, entryOf as entryNumber}
 use Rattle.record_text.specs.Value.{chapTypes, modes, valueText, fieldText, fieldBytes}
 use Rattle.record_text.specs.Tell.{recordField, bytesIn, ifAccepted, bytesOf, fieldFrom}
 use Rattle.record_text.specs.declared.fields.Field.{Field as FieldLayout}
 use Rattle.record_text.specs.declared.fields.Notation.{Notation}
 use Rattle.record_text.specs.declared.fields.Notation.the-variants.{Oem, Mode, Flags, Number, Address, Mac, Pci, Chap, Text}
+use Rattle.record_text.proofs.FieldsLaws.{group-past}
 use Rattle.record_text.proofs.ValueLaws.{each-at}
 use Rattle.record_text.proofs.ValueBackLaws.{Small, Said, take-small, field-back}
 use Rattle.record_text.proofs.TellLaws.{number-field, structure-part, structure-fits, entry-part}
@@ -176,7 +178,7 @@ low-plain zero n h = not-true _ (each-at bare ((groupOf 0) .fields) n _ refl ref
 low-plain (suc zero) n h = not-true _ (each-at bare ((groupOf 1) .fields) n _ refl refl)
 low-plain (suc (suc g)) n h = absurd (omega arith)
 
-text-is : (flags : List ℕ) (notation : Notation) (bytes : List ℕ) → isText notation ≡ true → valueText flags notation bytes ≡ stringText bytes
+pub text-is : (flags : List ℕ) (notation : Notation) (bytes : List ℕ) → isText notation ≡ true → valueText flags notation bytes ≡ stringText bytes
 unfolding isText valueText
 text-is flags Oem bytes e = clash e refl
 text-is flags Mode bytes e = clash e refl
@@ -194,6 +196,9 @@ module _ (t : List ℕ) (small : Small t) (f : ℕ) (bytes : List ℕ) (told : b
   accepted : checkOf t ≡ Accepted
   accepted = numbered t f bytes told .0
 
+  pub told-number : f % 16 < fieldCount (groupNumber f)
+  told-number = numbered t f bytes told .1
+
   from : fieldFrom t f ≡ some bytes
   from = numbered t f bytes told .2
 
@@ -204,12 +209,12 @@ module _ (t : List ℕ) (small : Small t) (f : ℕ) (bytes : List ℕ) (told : b
   long : 66 ≤ length t
   long = let header = accepted-facts t accepted .header in omega (arith, header .long, header .whole)
 
-  -- a field whose bytes are that part of the table
-  part-back : (start : ℕ) → bytes ≡ part t start ((fieldOf f) .width) → start + (fieldOf f) .width ≤ length t
-      → Said ((groupOf (groupNumber f)) .flags) ((fieldOf f) .notation) bytes → fieldBytes f (fieldText f bytes) ≡ some bytes
-  part-back start e fits is-said =
-      field-back f bytes (ap length e ∙ part-length t start ((fieldOf f) .width) fits)
-      (λ i. omega (arith, ap (λ (l : List ℕ). byte l i) e, part-small t start ((fieldOf f) .width) small i)) is-said
+  -- the bytes of a field that is no string: that part of the table, and they have a text
+  record Stands : Type 0 where
+    start : ℕ
+    are : bytes ≡ part t start ((fieldOf f) .width)
+    lies : start + (fieldOf f) .width ≤ length t
+    said : Said ((groupOf (groupNumber f)) .flags) ((fieldOf f) .notation) bytes
 
   -- an OEM field
   module _ (group : groupNumber f ≡ 0) where
@@ -232,19 +237,27 @@ module _ (t : List ℕ) (small : Small t) (f : ℕ) (bytes : List ℕ) (told : b
     unfolding recordField recordOf listed contentOf
     id-bytes e = sym (same-bytes (part t 10 6) bytes (rw (group, e) at record-has))
 
-    oem-back : fieldBytes f (fieldText f bytes) ≡ some bytes
+    oem-stands : Stands
     unfolding fieldCount groupOf
-    oem-back =
+    oem-stands =
         elim (decLt (f % 16) 1) [
           | yes h ↦
               let e : f % 16 ≡ 0 = omega arith in
-              part-back 10 (rw (id-layout e) (id-bytes e)) (rw (id-layout e) (omega (arith, long)))
-              (rw (id-layout e) (ap padded (id-bytes e) ∙ header .oem-id))
+              record {
+                start = 10;
+                are = rw (id-layout e) (id-bytes e);
+                lies = rw (id-layout e) (omega (arith, long));
+                said = rw (id-layout e) (ap padded (id-bytes e) ∙ header .oem-id);
+              }
           | no h ↦
-              let below : f % 16 < 2 = rw group at (numbered t f bytes told .1) in
+              let below : f % 16 < 2 = rw group at told-number in
               let e : f % 16 ≡ 1 = omega arith in
-              part-back 16 (rw (table-id-layout e) (table-id-bytes e)) (rw (table-id-layout e) (omega (arith, long)))
-              (rw (table-id-layout e) (ap padded (table-id-bytes e) ∙ header .oem-table-id))
+              record {
+                start = 16;
+                are = rw (table-id-layout e) (table-id-bytes e);
+                lies = rw (table-id-layout e) (omega (arith, long));
+                said = rw (table-id-layout e) (ap padded (table-id-bytes e) ∙ header .oem-table-id);
+              }
         ]
 
   -- the login mode
@@ -257,18 +270,19 @@ module _ (t : List ℕ) (small : Small t) (f : ℕ) (bytes : List ℕ) (told : b
     unfolding recordField recordOf listed contentOf
     mode-bytes = sym (same-bytes (byte t 53 ∷ []) bytes (rw group at record-has))
 
-    mode-back : fieldBytes f (fieldText f bytes) ≡ some bytes
-    unfolding fieldCount groupOf
-    mode-back =
-        let below : f % 16 < 1 = rw group at (numbered t f bytes told .1) in
+    mode-stands : Stands
+    unfolding fieldCount groupOf part
+    mode-stands =
+        let below : f % 16 < 1 = rw group at told-number in
         let layout = mode-layout (omega arith) in
         let flags = accepted-facts t accepted .control .starts .reserved in
         let low : byte bytes 0 < wordCount modes = rw mode-bytes (mode-low (byte t 53) (small 53) flags) in
-        field-back f bytes (rw (layout, mode-bytes)) (λ i. rw mode-bytes (one-small i)) (rw layout low)
-      where
-        one-small : (i : ℕ) → byte (byte t 53 ∷ []) i < 256
-        one-small zero = small 53
-        one-small (suc i) = omega arith
+        record {
+          start = 53;
+          are = rw layout (mode-bytes ∙ rw (drop-cons t 53 0 (omega (arith, long))));
+          lies = rw layout (omega (arith, long));
+          said = rw layout low;
+        }
 
   -- a field of a structure
   module _ (group : firstSlotGroup ≤ groupNumber f) where
@@ -320,8 +334,14 @@ module _ (t : List ℕ) (small : Small t) (f : ℕ) (bytes : List ℕ) (told : b
           let here : byte bytes 0 ≡ byte t (startOf t slot + chapAt) = first-byte h ∙ ap (λ (n : ℕ). byte t (startOf t slot + n)) e in
           omega (arith, here, facts .chap chap))
 
-    structure-back : isText ((fieldOf f) .notation) ≡ false → fieldBytes f (fieldText f bytes) ≡ some bytes
-    structure-back plain = part-back (startOf t slot + (fieldOf f) .at) (bytes-are plain) (lies plain) (structure-said plain (width-some f))
+    structure-stands : isText ((fieldOf f) .notation) ≡ false → Stands
+    structure-stands plain =
+        record {
+          start = startOf t slot + (fieldOf f) .at;
+          are = bytes-are plain;
+          lies = lies plain;
+          said = structure-said plain (width-some f);
+        }
 
     string-back-bytes : isText ((fieldOf f) .notation) ≡ true → stringOf (fieldText f bytes) ≡ some bytes
     string-back-bytes text =
@@ -331,17 +351,37 @@ module _ (t : List ℕ) (small : Small t) (f : ℕ) (bytes : List ℕ) (told : b
         ap stringOf (text-is ((groupOf (groupNumber f)) .flags) ((fieldOf f) .notation) bytes text)
         ∙ string-back bytes (λ i. omega (arith, ap (λ (l : List ℕ). byte l i) e, part-small t (offsetOf t n) (sizeOf t n) small i))
 
+  stands : isText ((fieldOf f) .notation) ≡ false → Stands
+  stands plain =
+      elim (decLt (groupNumber f) 1) [
+        | yes h ↦ oem-stands (omega arith)
+        | no h ↦
+            elim (decLt (groupNumber f) 2) [
+              | yes l ↦ mode-stands (omega arith)
+              | no l ↦ structure-stands (omega arith) plain
+            ]
+      ]
+
+  -- its group is one of those that there are: past the last, a number stands for no string and for no structure
+  pub told-group : groupNumber f < groupCount
+  unfolding fieldOf
+  told-group =
+      elim (decLt (groupNumber f) groupCount) [
+        | yes h ↦ h
+        | no h ↦
+            let first = ap (λ (g : Group). isText ((fieldIn g (f % 16)) .notation)) (group-past (groupNumber f) (omega arith)) in
+            absurd (omega (arith, below (omega arith) (first ∙ low-plain 0 (f % 16) (omega arith))))
+      ]
+
+  pub told-said : isText ((fieldOf f) .notation) ≡ false → Said ((groupOf (groupNumber f)) .flags) ((fieldOf f) .notation) bytes
+  told-said plain = stands plain .said
+
   -- the text of a field that is no string, read, is its bytes
   pub told-value : isText ((fieldOf f) .notation) ≡ false → fieldBytes f (fieldText f bytes) ≡ some bytes
   told-value plain =
-      elim (decLt (groupNumber f) 1) [
-        | yes h ↦ oem-back (omega arith)
-        | no h ↦
-            elim (decLt (groupNumber f) 2) [
-              | yes l ↦ mode-back (omega arith)
-              | no l ↦ structure-back (omega arith) plain
-            ]
-      ]
+      let s = stands plain in
+      field-back f bytes (ap length (s .are) ∙ part-length t (s .start) ((fieldOf f) .width) (s .lies))
+      (λ i. omega (arith, ap (λ (l : List ℕ). byte l i) (s .are), part-small t (s .start) ((fieldOf f) .width) small i)) (s .said)
 
   -- .. of a string
   pub told-string : isText ((fieldOf f) .notation) ≡ true → stringOf (fieldText f bytes) ≡ some bytes

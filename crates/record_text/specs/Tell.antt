@@ -1,5 +1,5 @@
 -- What a table holds, as text: docs/RECORD-FORMAT.md, What tell writes. Assumes nothing: these are definitions.
-use Prim.Native.Nat.{ℕ, _+_, _-_, _%_}
+use Prim.Native.Nat.{ℕ, _-_, _%_}
 use Prim.Native.Char.{code}
 use mathlib.Core.List.{List, [], _∷_, _++_}
 use mathlib.Core.Bool.{Bool, true, cond, not, _&&_, _||_}

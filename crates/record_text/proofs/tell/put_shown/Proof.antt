@@ -1,10 +1,8 @@
 -- `put_shown` meets its contract: the field's group, and whether it is a string, say which reading gives its bytes. Assumes nothing.
 use mathlib.Core.Path.{_≡_, sym, ap, _∙_}
-use mathlib.Core.Bool.{true, false}
-use Prim.Native.Nat.{_≤_}
 use native.Mathlib.Omega.{arith}
 use Rattle.text.proofs.PutLaws.{puts-nothing, puts-same}
-use Rattle.record_text.specs.Fields.{isText, fieldOf, groupNumber}
+use Rattle.record_text.specs.Fields.{isText, fieldOf}
 use Rattle.record_text.specs.Tell.{shownLine}
 use Rattle.record_text.specs.declared.fields.Field.{Field}
 use Rattle.record_text.proofs.TellLaws.{number-field, number-past}
