@@ -10,6 +10,7 @@ use Rattle.string_heap.specs.Stored.{every}
 use Rattle.string_heap.specs.Places.{len, heapTo}
 use Rattle.string_heap.specs.Starts.{align8}
 use Rattle.ibft_table.specs.Layout.{Kind, control, kindOf, indexOf, firstEntry, slotCount, entryCount, builtSlot}
+use Rattle.ibft_table.specs.Shapes.{shapeOf, shapeStart}
 use Rattle.ibft_table.specs.Record.{Content}
 use Rattle.build_rules.specs.Plan.{endBuilt, startBuilt, lengthBuilt, offsetBuilt}
 
@@ -19,7 +20,7 @@ headerBytes c = 105 ∷ 66 ∷ 70 ∷ 84 ∷ (le32 (lengthBuilt c) ++ (1 ∷ 0 �
 
 -- the start of a structure up to its flags: ID, Version, Length, Index
 abbrev pub startBytes : Kind → ℕ → List ℕ
-startBytes kind index = kind .id ∷ kind .version ∷ (le16 (kind .length) ++ (index ∷ []))
+startBytes kind index = shapeStart (shapeOf kind) index
 
 -- Control: its flags, the Extensions word 0, then the starts slot by slot
 unfoldable pub controlBytes : Content → List ℕ

@@ -7,7 +7,7 @@ use octets::read::u16_at;
 use octets::read::u32_at;
 ghost use mathlib.Core.Path.{_≡_};
 ghost use Rattle.ibft_table.specs.Layout.{kindOf, indexOf, ownerOf, stringOf, wordAt};
-ghost use Rattle.ibft_table.specs.Shapes.{shapeOf, startBytes, stringShape};
+ghost use Rattle.ibft_table.specs.Shapes.{shapeOf, shapeStart, stringShape};
 ghost use Rattle.ibft_table.specs.Table.{lengthOf, startOf, endOf, fieldOf, holdsEntry};
 
 // Where the header's fields stand.
@@ -40,7 +40,7 @@ pub struct Shape {
 impl Shape {
     // What a structure of the kind starts with, up to its flags: ID, Version, Length, Index.
     pub fn start(self, index: u8) -> [u8; 5]
-        ensures { λ r. ⌜ r ≡ startBytes self index ⌝ }
+        ensures { λ r. ⌜ r ≡ shapeStart self index ⌝ }
     {
         let size = self.length;
         [

@@ -1,12 +1,13 @@
 -- `overlaps_earlier` meets its contract: no slot below i overlaps, and i does or is k. Assumes nothing.
 use mathlib.Core.Path.{_≡_, sym, _∙_}
-use mathlib.Core.Bool.{false, and-false}
+use mathlib.Core.Bool.{false, _&&_, and-false}
 use Prim.Native.Nat.{ℕ, _-_, _≤_, _<_}
 use native.Mathlib.Omega.{arith}
+use lib.Dec.{ltb}
 use borrow.Author.Count.{below-more}
 use borrow.Author.Tests.{eq-eqb, ne-eqb}
 use Rattle.octets.proofs.CountingLaws.{any-yes, any-no}
-use Rattle.ibft_table.specs.Table.{startOf, present}
+use Rattle.ibft_table.specs.Table.{startOf, present, endOf}
 use Rattle.ibft_table.specs.Check.{overlap}
 use borrow.Author.Needs.{needs}
 use Rattle.ibft_table.proofs.check_overlaps.overlaps_earlier.Statement.{statement}
@@ -22,7 +23,13 @@ abbrev μ-loop : tie.MeasureT-loop
 shares-is : (c : tie.After-shares Inv-loop μ-loop) → c .shares .result ≡ overlap (c .before .before .before .before .before .before .before .args .t .now) (c .before .before .before .before .before .before .before .args .k) (c .before .before .loop .i)
 unfolding overlap present
 shares-is c =
-    c .shares .ensures ∙ rw (c .before .before .before .before .before .start-of .ensures, c .before .before .before .end-of .ensures, ne-eqb (startOf (c .before .before .before .before .before .before .before .args .t .now) (c .before .before .before .before .before .before .before .args .k)) 0 (omega arith))
+    let a = c .before .before .before .before .before .before .before .args in
+    let t = a .t .now in
+    let i = c .before .before .loop .i in
+    let start = c .before .before .before .before .before .start-of in
+    let end = c .before .before .before .end-of in
+    let shared : c .shares .result ≡ present t i && (ltb (startOf t i) (end .result) && ltb (start .result) (endOf t i)) = c .shares .ensures in
+    shared ∙ rw (start .ensures, end .ensures, ne-eqb (startOf t (a .k)) 0 (omega arith))
 
 returns : tie.Need-returns Inv-loop μ-loop
 unfolding overlap present

@@ -1,5 +1,5 @@
 -- `holds_entry` meets its contract: the structure is absent, or one of the two words decides. Assumes nothing.
-use mathlib.Core.Path.{ap, _∙_}
+use mathlib.Core.Path.{_≡_, ap, _∙_}
 use Prim.Native.Nat.{ℕ, _+_}
 use native.Mathlib.Omega.{arith}
 use borrow.Author.Tests.{eq-eqb, ne-eqb}
@@ -33,8 +33,9 @@ returns-3 c =
     let owner-start = c .before .before .before .before .before .start-of .ensures ∙ ap (startOf (a .t .now)) (c .before .before .before .before .before .before .owner-of .ensures) in
     let t = a .t .now in
     let field = c .before .before .before .field-of .ensures in
+    let offset : c .u16-at2 .result ≡ word16 t (c .before .before .before .field-of .result + 2) = c .u16-at2 .ensures in
     simp (ne-eqb (startOf t (ownerOf (a .n))) 0 (omega arith), eq-eqb (word16 t (fieldOf t (a .n))) 0 (omega (arith, ap (word16 t) field)))
-    (ap (λ (x : ℕ). differs x 0) (c .u16-at2 .ensures ∙ ap (λ (f : ℕ). word16 t (f + 2)) field))
+    (ap (λ (x : ℕ). differs x 0) (offset ∙ ap (λ (f : ℕ). word16 t (f + 2)) field))
 
 pub holds-entry-spec : {M : Type 1} → statement M
 holds-entry-spec = tie.close (tie.spec (search needs) (search needs) returns (search needs) (search needs) (search needs) returns-2 (search needs) (search needs) returns-3)

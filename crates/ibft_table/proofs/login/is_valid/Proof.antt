@@ -1,10 +1,10 @@
 -- `is_valid` meets its contract: a target that is absent is not valid, whatever stands where its flags would. Assumes nothing.
-use mathlib.Core.Path.{_≡_}
+use mathlib.Core.Path.{_≡_, ap}
 use native.Mathlib.Omega.{arith}
 use borrow.Author.Tests.{eq-eqb, ne-eqb}
 use Rattle.ibft_table.specs.Layout.{targetSlot}
 use Rattle.ibft_table.specs.Table.{startOf, present}
-use Rattle.ibft_table.specs.Login.{valid}
+use Rattle.ibft_table.specs.Login.{has, valid}
 use borrow.Author.Needs.{needs}
 use Rattle.ibft_table.proofs.login.is_valid.Statement.{statement}
 use Rattle.ibft_table.proofs.login.is_valid.Tie as tie
@@ -21,7 +21,7 @@ unfolding valid present
 returns-2 c =
     let a = c .before .before .before .before .before .args in
     let start : c .before .before .slot-start .result ≡ startOf (a .t .now) (targetSlot (a .n)) = cc in
-    rw (ne-eqb (startOf (a .t .now) (targetSlot (a .n))) 0 (omega arith), c .target-flags .ensures)
+    rw (ne-eqb (startOf (a .t .now) (targetSlot (a .n))) 0 (omega arith)) (ap (has 1) (c .target-flags .ensures))
 
 pub is-valid-spec : {M : Type 1} → statement M
 is-valid-spec = tie.close (tie.spec (search needs) (search needs) returns (search needs) returns-2)

@@ -1,5 +1,6 @@
 -- `led_by` meets its contract: one place used, or none. Assumes nothing.
 use mathlib.Core.Path.{_≡_, ap, _∙_}
+use mathlib.Core.List.{[], _∷_}
 use native.Mathlib.Omega.{arith}
 use borrow.Author.Tests.{lt-ltb, le-ltb}
 use Rattle.octets.specs.Counting.{tabulate}
@@ -16,7 +17,9 @@ then-requires c κs = omega (arith, ap (λ (o : LoginOrder). o .used) (c .before
 
 returns : tie.Need-returns
 unfolding placed refusalOf tabulate
-returns c = c .then .ensures ∙ rw (c .before .before .none .ensures, lt-ltb (c .before .before .before .args .lead) targetCount (omega arith))
+returns c =
+    let nobody : c .before .before .none .result ≡ record { refusal = record { number = 0; place = 0 }; used = 0; places = 255 ∷ 255 ∷ [] } = c .before .before .none .ensures in
+    c .then .ensures ∙ rw (nobody, lt-ltb (c .before .before .before .args .lead) targetCount (omega arith))
 
 returns-2 : tie.Need-returns-2
 unfolding placed refusalOf tabulate

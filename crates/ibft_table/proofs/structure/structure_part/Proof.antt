@@ -17,8 +17,9 @@ returns c =
     let a = c .before .before .before .before .args in
     let t = a .t .now in
     let start = c .before .before .slot-start in
+    let lent : c .before .part .result .now ≡ part t (start .result) (length t) = c .before .part .ensures .bytes in
     let bytes : c .before .part .result .now ≡ drop (startOf t (a .k)) t =
-    c .before .part .ensures .bytes ∙ part-rest t (start .result) (length t) (omega arith) ∙ ap (λ (s : ℕ). drop s t) (start .ensures) in
+    lent ∙ part-rest t (start .result) (length t) (omega arith) ∙ ap (λ (s : ℕ). drop s t) (start .ensures) in
     let view = c .shown-of .ensures in (
       view .0 ∙ ap (shown (a .verdict)) bytes,
       λ accepted within.
