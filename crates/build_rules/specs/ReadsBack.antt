@@ -1,5 +1,5 @@
--- What the reading calls give of a table t that holds the record c, call by call: demand 2's "reads back as the same record, each
--- string under its own owner". (`recordOf t ≡ c` says the same of the definition of a table's meaning, apart from the readers.)
+-- What the reading calls give of a table t that holds the record c, call by call: demand 2 of what is built. (`recordOf t ≡ c` says the
+-- same of the definition of a table's meaning, apart from the readers.)
 -- Nothing but this promise stands here.
 use mathlib.Core.Path.{_≡_}
 use mathlib.Core.List.{List}
