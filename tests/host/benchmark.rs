@@ -17,7 +17,6 @@ mod record_maker;
 mod seeded;
 #[allow(dead_code)]
 mod table_maker;
-mod twin_build;
 mod twin_check;
 mod twins;
 
@@ -84,22 +83,32 @@ fn best_times(rounds: usize, calls: usize, call: impl Fn(usize) -> u64) -> [f64;
     best
 }
 
-fn measure(what: &str, rounds: usize, calls: usize, call: impl Fn(usize) -> u64) {
+fn answers_agree(what: &str, call: impl Fn(usize) -> u64) -> bool {
     let answers = [call(0), call(1), call(2)];
-    if answers != [answers[0]; 3] {
+    let agree = answers == [answers[0]; 3];
+    if !agree {
         println!("{}: the answers differ, {:?}: no comparison", what, answers);
-        return;
     }
-    let best = best_times(rounds, calls, call);
+    agree
+}
+
+fn print_times(what: &str, best: [f64; 3], notes: [String; 3]) {
     println!("{}", what);
-    for (name, time) in CONTENDERS.iter().zip(best) {
-        println!("  {:<10} {:>12.1} ns", name, time);
+    for ((name, time), note) in CONTENDERS.iter().zip(best).zip(notes) {
+        println!("  {:<10} {:>12.1} ns{}", name, time, note);
     }
     println!(
         "  library / C twin {:.2}, library / Rust twin {:.2}",
         best[0] / best[1],
         best[0] / best[2]
     );
+}
+
+fn measure(what: &str, rounds: usize, calls: usize, call: impl Fn(usize) -> u64) {
+    if answers_agree(what, &call) {
+        let best = best_times(rounds, calls, call);
+        print_times(what, best, [String::new(), String::new(), String::new()]);
+    }
 }
 
 /// 512 KiB without a signature.

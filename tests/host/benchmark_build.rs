@@ -1,35 +1,63 @@
-//! Times the build beside its twins: a common record and the worst one. The twins compare tails as
-//! one would write it; for the worst record also from the back, byte by byte, as the library does.
+//! Times the build beside its twins: a common record, the worst one, and one whose strings differ in
+//! the middle. The twins compare tails as one would write it; on the last two also from the back, byte
+//! by byte.
+//!
+//! The same code takes up to a quarter longer where the linker happens to lay it badly. So every build
+//! stands in this program four times, each copy 16 bytes further on (tests/host/run makes them), and
+//! the best of the four counts; the worst is printed beside it.
 
-use crate::library::{self, Build};
-use crate::measure;
-use crate::record_maker::{common_record, worst_record, Given};
-use crate::twin_build;
+use crate::library::Build;
+use crate::record_maker::{common_record, middle_record, worst_record, Given};
+use crate::{answers_agree, best_times, print_times};
 
-extern "C" {
-    fn c_build(
-        record: *const u8,
-        record_size: usize,
-        strings: *const u8,
-        strings_size: usize,
-        room: *mut u8,
-        room_size: usize,
-    ) -> u64;
-    fn c_build_from_back(
-        record: *const u8,
-        record_size: usize,
-        strings: *const u8,
-        strings_size: usize,
-        room: *mut u8,
-        room_size: usize,
-    ) -> u64;
+/// The copies of a build.
+type Copies = [Build; 4];
+
+macro_rules! builds {
+    ($($name:ident)*) => {
+        extern "C" {
+            $(fn $name(
+                record: *const u8,
+                record_size: usize,
+                strings: *const u8,
+                strings_size: usize,
+                room: *mut u8,
+                room_size: usize,
+            ) -> u64;)*
+        }
+    };
 }
 
-static BUILDS: [Build; 3] = [library::ibft_build, c_build, twin_build::rust_build];
-static BUILDS_FROM_BACK: [Build; 3] = [
-    library::ibft_build,
-    c_build_from_back,
-    twin_build::rust_build_from_back,
+builds! {
+    ibft_build_0 ibft_build_16 ibft_build_32 ibft_build_48
+    c_build_0 c_build_16 c_build_32 c_build_48
+    c_build_from_back_0 c_build_from_back_16 c_build_from_back_32 c_build_from_back_48
+    rust_build_0 rust_build_16 rust_build_32 rust_build_48
+    rust_build_from_back_0 rust_build_from_back_16 rust_build_from_back_32 rust_build_from_back_48
+}
+
+static LIBRARY: Copies = [ibft_build_0, ibft_build_16, ibft_build_32, ibft_build_48];
+
+static BUILDS: [Copies; 3] = [
+    LIBRARY,
+    [c_build_0, c_build_16, c_build_32, c_build_48],
+    [rust_build_0, rust_build_16, rust_build_32, rust_build_48],
+];
+
+static BUILDS_FROM_BACK: [Copies; 3] = [
+    LIBRARY,
+    [
+        c_build_from_back_0,
+        c_build_from_back_16,
+        c_build_from_back_32,
+        c_build_from_back_48,
+    ],
+    [
+        rust_build_from_back_0,
+        rust_build_from_back_16,
+        rust_build_from_back_32,
+        rust_build_from_back_48,
+    ],
 ];
 
 const ROOM_SIZE: usize = 4_096;
@@ -56,23 +84,40 @@ fn built_by(build: &Build, given: &Given) -> Vec<u8> {
     room
 }
 
-fn measure_build(what: &str, builds: &[Build; 3], calls: usize, given: &Given) {
-    let table = built_by(&builds[0], given);
-    if builds.iter().any(|build| built_by(build, given) != table) {
+fn measure_build(what: &str, builds: &[Copies; 3], calls: usize, given: &Given) {
+    let table = built_by(&builds[0][0], given);
+    if builds.iter().flatten().any(|build| built_by(build, given) != table) {
         println!("{}: the tables differ: no comparison", what);
         return;
     }
     let mut room = vec![0; ROOM_SIZE];
     let room = room.as_mut_ptr();
-    measure(what, 1_000, calls, |c| build_by(&builds[c], given, room));
+    let mut best = [f64::INFINITY; 3];
+    let mut worst = [0f64; 3];
+    for copy in 0..4 {
+        let call = |c: usize| build_by(&builds[c][copy], given, room);
+        if !answers_agree(what, call) {
+            return;
+        }
+        for (c, time) in best_times(500, calls, call).into_iter().enumerate() {
+            best[c] = best[c].min(time);
+            worst[c] = worst[c].max(time);
+        }
+    }
+    let notes = worst.map(|time| format!(", {:.1} ns where it lies worst", time));
+    print_times(what, best, notes);
 }
 
 pub fn measure_builds() {
-    let (common, worst) = (common_record(), worst_record());
+    let (common, worst, middle) = (common_record(), worst_record(), middle_record());
     let what = "build of the common record, 414 bytes";
     measure_build(what, &BUILDS, 200, &common);
     let what = "build of the worst record, 3702 bytes";
     measure_build(what, &BUILDS, 20, &worst);
     let what = "build of the worst record, twins compare from the back";
     measure_build(what, &BUILDS_FROM_BACK, 20, &worst);
+    let what = "build of a record whose strings differ in the middle, 3702 bytes";
+    measure_build(what, &BUILDS, 20, &middle);
+    let what = "build of that record, twins compare from the back";
+    measure_build(what, &BUILDS_FROM_BACK, 20, &middle);
 }

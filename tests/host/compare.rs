@@ -17,6 +17,7 @@ mod compare_login;
 mod compare_readings;
 mod compare_scan;
 mod compare_show;
+mod compare_tail;
 mod compare_text;
 mod compare_views;
 mod field_maker;
@@ -43,6 +44,7 @@ mod model_record;
 mod model_record_range;
 mod model_scan;
 mod model_show;
+mod model_tail;
 mod model_text;
 mod record_damage;
 mod record_maker;
@@ -64,6 +66,7 @@ fn main() {
     let all_agree = compare_scan::compare()
         && compare_host_name::compare()
         && compare_checksum::compare()
+        && compare_tail::compare()
         && compare_check::compare()
         && compare_readings::compare()
         && compare_views::compare()

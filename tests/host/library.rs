@@ -1,7 +1,7 @@
 //! The calls of the two static libraries, as C declares them.
 //!
-//! `test_host_name` answers C's `bool`. It is read as a byte here, so that an answer other than
-//! 0 and 1 is a difference like any other.
+//! `test_host_name` and `test_is_tail` answer C's `bool`. It is read as a byte here, so that an answer
+//! other than 0 and 1 is a difference like any other.
 
 /// A reading without a number, and one with: the table, the number, and the bytes for what is read.
 pub type Reading = unsafe extern "C" fn(*const u8, usize, *mut u8, usize) -> u64;
@@ -27,6 +27,8 @@ extern "C" {
 
     pub fn test_host_name(name: *const u8, name_size: usize) -> u8;
     pub fn test_checksum(bytes: *const u8, size: usize, at: usize) -> u8;
+    pub fn test_common_tail(a: *const u8, a_size: usize, b: *const u8, b_size: usize) -> usize;
+    pub fn test_is_tail(a: *const u8, a_size: usize, b: *const u8, b_size: usize) -> u8;
 
     pub fn test_structure(table: *const u8, size: usize, slot: u8) -> u64;
     pub fn test_entry(table: *const u8, size: usize, entry: u8) -> u64;

@@ -154,17 +154,30 @@ pub fn common_record() -> Given {
     given
 }
 
-/// The worst record: thirteen strings, each as long as it may be and a host name with a dot at every
-/// other byte, and all of them equal from the back but for the first byte. None is a tail, and who
-/// compares from the back has to go through them all. Its table has 3,702 bytes, the most there is.
-pub fn worst_record() -> Given {
+/// Thirteen strings, each as long as it may be and a host name with a dot at every other byte, and all
+/// of them equal from the back but for one byte, at the even place that is named for the longest size.
+/// None is a tail. The table has 3,702 bytes, the most there is.
+fn alike_record(differs_at: impl Fn(usize) -> usize) -> Given {
     let mut given = record_with(&ALL_SLOTS, &[]);
     for (i, entry) in ENTRIES.iter().enumerate() {
-        let mut text = dots_between((entry.longest as usize + 1) / 2, b'a');
-        text[0] = b'b' + i as u8;
+        let longest = entry.longest as usize;
+        let mut text = dots_between((longest + 1) / 2, b'a');
+        text[differs_at(longest)] = b'b' + i as u8;
         given.give(i, &text);
     }
     given
+}
+
+/// The worst record for who compares from the back: the first byte differs, and all others have to be
+/// gone through before it.
+pub fn worst_record() -> Given {
+    alike_record(|_| 0)
+}
+
+/// The byte in the middle differs: one that compares from the front has as far to go as one that
+/// compares from the back.
+pub fn middle_record() -> Given {
+    alike_record(|longest| longest / 4 * 2)
 }
 
 /// All five structures, and each of the thirteen strings with bytes of its own, but for the tail

@@ -28,6 +28,7 @@ struct Plan {
     offsets: [usize; 13],
 }
 
+#[no_mangle]
 pub unsafe extern "C" fn rust_build(
     record: *const u8,
     record_size: usize,
@@ -44,6 +45,7 @@ pub unsafe extern "C" fn rust_build(
     }))
 }
 
+#[no_mangle]
 pub unsafe extern "C" fn rust_build_from_back(
     record: *const u8,
     record_size: usize,

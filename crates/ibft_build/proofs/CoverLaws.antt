@@ -1,4 +1,5 @@
 -- Laws of the storing rule over the entries of a record range, each shaped like what the code returns.
+--     tail-first                                   an entry whose first byte differs is no tail
 --     covered-short, covered-late, covered-tail    whether entry j makes it needless to store another
 --     stored-missing, stored-is                    whether an entry is stored
 --     size-stored, size-none                       what an entry takes in the heap
@@ -8,27 +9,36 @@ use mathlib.Core.Bool.{Bool, true, false, not, _&&_, _||_}
 use mathlib.Core.Option.{none, some}
 use mathlib.Core.List.{List}
 use Prim.Native.Nat.{ℕ, _+_, _-_, _≤_, _<_}
+use native.Mathlib.Nat.{add-zero}
 use native.Mathlib.Omega.{arith}
 use native.Mathlib.Decide.{decLt}
 use lib.Dec.{ltb}
 use lib.ListN.{length}
-use borrow.Author.Tests.{lt-ltb, le-ltb, ne-eqb}
-use Rattle.octets.specs.Octets.{part}
+use borrow.Author.Tests.{lt-ltb, le-ltb}
+use Rattle.octets.specs.Octets.{byte, part}
 use Rattle.octets.specs.Counting.{any}
 use Rattle.octets.proofs.CountingLaws.{clash}
-use Rattle.octets.proofs.ReadLaws.{part-length}
-use Rattle.string_heap.specs.Tails.{agree, isTail}
-use Rattle.string_heap.proofs.TailsLaws.{agree-le}
+use Rattle.octets.proofs.ReadLaws.{part-length, part-at}
+use Rattle.string_heap.specs.Tails.{isTail}
+use Rattle.string_heap.proofs.TailsLaws.{isTail-long, isTail-first}
 use Rattle.string_heap.specs.Stored.{Entry, every, covers, coveredBy, stored, storedAs, ofStored}
 use Rattle.ibft_table.specs.Layout.{entryCount}
 use Rattle.build_rules.specs.RecordRange.{startGiven}
 use Rattle.ibft_build.specs.Planning.{Readable, entriesGiven, wantedGiven, sizeGiven}
 use Rattle.ibft_build.proofs.EntryLaws.{entry-none, wanted-missing, lies-at}
 
--- what is longer is no tail
-pub not-tail : (a b : List ℕ) → length b < length a → isTail a b ≡ false
-unfolding isTail
-not-tail a b h = ne-eqb (agree a b) (length a) (λ e. omega (arith, agree-le a b))
+-- an entry whose first byte differs from the other's as far from the end
+pub tail-first : (s : List ℕ) (start size other m : ℕ) → start + size ≤ length s → other + m ≤ length s → 0 < size → size ≤ m
+    → (byte s start ≡ byte s (other + (m - size)) → ⊥) → false ≡ isTail (part s start size) (part s other m)
+tail-first s start size other m ha hb filled fits differ =
+    let a : List ℕ = part s start size in
+    let b : List ℕ = part s other m in
+    let la : length a ≡ size = part-length s start size ha in
+    let lb : length b ≡ m = part-length s other m hb in
+    let left : byte s start ≡ byte a 0 = ap (byte s) (sym (add-zero start)) ∙ sym (part-at s start size 0 filled) in
+    let right : byte b (length b - length a) ≡ byte s (other + (m - size)) =
+    ap₂ (λ (x y : ℕ). byte b (x - y)) lb la ∙ part-at s other m (m - size) (omega arith) in
+    sym (isTail-first a b (omega arith) (omega arith) (λ e. differ (left ∙ e ∙ right)))
 
 not-and : (x y z : Bool) → y ≡ false → z ≡ false → (x && (y || z)) ≡ false
 not-and true y z p q = ap₂ (λ (u v : Bool). u || v) p q
@@ -52,7 +62,7 @@ module _ (r s : List ℕ) (i start size j : ℕ) (sound : Readable r s) (fits : 
             let b : List ℕ = part s (startGiven r j) (w - 1) in
             let lies = lies-at r s j sound h w (startGiven r j) want pos refl in
             let short : length b < length (part s start size) = omega (arith, lies .length-is, part-length s start size fits) in
-            sym (present pos (part s start size) ∙ ap (λ (t : Bool). t && (ltb (length (part s start size)) (length b) || ltb j i)) (not-tail (part s start size) b short))
+            sym (present pos (part s start size) ∙ ap (λ (t : Bool). t && (ltb (length (part s start size)) (length b) || ltb j i)) (isTail-long (part s start size) b short))
         | no l ↦ sym (ap (coveredBy every i (part s start size) j) (entry-none r s j (wanted-missing r j (omega arith))))
       ]
 

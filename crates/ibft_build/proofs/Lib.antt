@@ -1,6 +1,5 @@
 pub mod ListLaws
 pub mod RecordLaws
-pub mod TailLaws
 pub mod EntryLaws
 pub mod CoverLaws
 pub mod StartLaws

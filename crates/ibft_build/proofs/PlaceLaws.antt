@@ -22,6 +22,7 @@ use Rattle.octets.specs.Octets.{part}
 use Rattle.octets.proofs.CountingLaws.{first-is}
 use Rattle.octets.proofs.ReadLaws.{part-length}
 use Rattle.string_heap.specs.Tails.{isTail}
+use Rattle.string_heap.proofs.TailsLaws.{isTail-long}
 use Rattle.string_heap.specs.Stored.{Entry, every, stored, ofStored, size, heapSize}
 use Rattle.string_heap.specs.Places.{len, endsWith, holds, host, place}
 use Rattle.string_heap.proofs.Intervals.{sumTo-le}
@@ -32,7 +33,7 @@ use Rattle.build_rules.specs.Plan.{heapStart, offsetAs, offsetBuilt}
 use Rattle.ibft_build.specs.Planning.{Readable, entriesGiven, wantedGiven, sizeGiven, heapSizes}
 use Rattle.ibft_build.proofs.ListLaws.{length-tabulate, getD-tabulate}
 use Rattle.ibft_build.proofs.EntryLaws.{entry-some, entry-none, Lies, lies-at}
-use Rattle.ibft_build.proofs.CoverLaws.{not-tail, stored-given, size-stored, size-none}
+use Rattle.ibft_build.proofs.CoverLaws.{stored-given, size-stored, size-none}
 use Rattle.ibft_build.proofs.StartLaws.{end-bound, end-built}
 
 -- ---- sums
@@ -118,7 +119,7 @@ module _ (r s : List ℕ) (sound : Readable r s) (start size : ℕ) (fits : star
       elim (decLt 0 w) [
         | yes pos ↦
             let lies = size-lies r s j sound h w takes pos (startGiven r j) refl in
-            let short = not-tail (part s start size) (part s (startGiven r j) (w - 1)) (omega (arith, lies .length-is, part-length s start size fits)) in
+            let short = isTail-long (part s start size) (part s (startGiven r j) (w - 1)) (omega (arith, lies .length-is, part-length s start size fits)) in
             sym (and-no (stored 13 every (entriesGiven r s) j) (endsWith (part s start size) (entriesGiven r s j)) (ap (endsWith (part s start size)) (lies .is) ∙ short))
         | no m ↦ sym (ap (λ (b : Bool). b && endsWith (part s start size) (entriesGiven r s j)) (size-gone r s j sound h (omega arith)))
       ]

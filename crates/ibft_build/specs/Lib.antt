@@ -1,4 +1,3 @@
 -- The definitions of this crate: what a reader must believe, and worked cases of it.
 pub mod Planning
 pub mod Writing
-pub mod Same

@@ -9,7 +9,6 @@ mod refusals_range;
 mod refusals_strings;
 mod starts;
 mod stored;
-mod tail;
 mod write_header;
 mod write_heap;
 mod write_structure;

@@ -3,7 +3,7 @@
 use crate::record::entry_given;
 use crate::record::entry_length;
 use crate::record::entry_start;
-use crate::tail::is_tail;
+use crate::stored::ends_with;
 use ibft_table::layout::ENTRY_COUNT;
 ghost use mathlib.Core.Path.{_≡_};
 ghost use mathlib.Core.Bool.{true, _&&_};
@@ -40,7 +40,7 @@ fn is_host(range: &[u8], strings: &[u8], sizes: &[u16], start: usize, size: usiz
     if other <= size {
         return false;
     }
-    is_tail(
+    ends_with(
         strings,
         start,
         size,

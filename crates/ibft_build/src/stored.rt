@@ -3,13 +3,15 @@
 use crate::record::entry_given;
 use crate::record::entry_length;
 use crate::record::entry_start;
-use crate::tail::is_tail;
 use ibft_table::layout::ENTRY_COUNT;
+use string_heap::tail::is_tail;
 ghost use mathlib.Core.Path.{_≡_};
+ghost use mathlib.Core.Bool.{true, false};
 ghost use Prim.Native.Nat.{ℕ, _+_, _≤_, _<_};
 ghost use lib.ListN.{length};
 ghost use Rattle.octets.specs.Counting.{any};
 ghost use Rattle.octets.specs.Octets.{part};
+ghost use Rattle.string_heap.specs.Tails.{isTail};
 ghost use Rattle.string_heap.specs.Stored.{every, coveredBy, stored};
 ghost use Rattle.ibft_build.specs.Planning.{Readable, entriesGiven, wantedGiven, wantedSizes, sizeGiven, heapSizes};
 
@@ -35,6 +37,41 @@ fn wanted_sizes(range: &[u8]) -> [u32; ENTRY_COUNT as usize]
     sizes
 }
 
+// Does the entry of `other_size` bytes from `other` on end with that of `size` bytes from `start` on?
+pub(crate) fn ends_with(
+    strings: &[u8],
+    start: usize,
+    size: usize,
+    other: usize,
+    other_size: usize,
+) -> bool
+    requires { ⌜ (start + size ≤ length (now strings)) × (other + «other_size» ≤ length (now strings)) ⌝ }
+    ensures { λ r. ⌜ r ≡ isTail (part (now (strings .entry)) start size) (part (now (strings .entry)) other «other_size») ⌝ }
+{
+    is_tail(
+        &strings[start..start + size],
+        &strings[other..other + other_size],
+    )
+}
+
+// Does the first byte of the entry of `size` bytes from `start` on differ from the byte as far from the end of the other entry, which is
+// no shorter? Then it is no tail of that, and nothing need be counted: entries that end alike most often begin differently.
+fn begins_differently(
+    strings: &[u8],
+    start: usize,
+    size: usize,
+    other: usize,
+    other_size: usize,
+) -> bool
+    requires { ⌜ (start + size ≤ length (now strings)) × (other + «other_size» ≤ length (now strings)) × (size ≤ «other_size») ⌝ }
+    ensures { λ r. ⌜ (r ≡ true → false ≡ isTail (part (now (strings .entry)) start size) (part (now (strings .entry)) other «other_size»)) ⌝ }
+{
+    if size == 0 {
+        return false;
+    }
+    strings[start] != strings[other + (other_size - size)]
+}
+
 // Is it needless, for entry j, to store entry i, whose bytes are the `size` from `start` on? The bytes are compared only where
 // entry j is longer, or as long with a lower number.
 fn is_covered_by(
@@ -58,13 +95,11 @@ fn is_covered_by(
             return false;
         }
     }
-    is_tail(
-        strings,
-        start,
-        size,
-        entry_start(range, j) as usize,
-        other - 1,
-    )
+    let other_start = entry_start(range, j) as usize;
+    if begins_differently(strings, start, size, other_start, other - 1) {
+        return false;
+    }
+    ends_with(strings, start, size, other_start, other - 1)
 }
 
 // Is it for any entry?

@@ -1,5 +1,6 @@
 pub mod Intervals
 pub mod TailsLaws
+pub mod SameLaws
 pub mod StoredLaws
 pub mod HostLaws
 pub mod StartsLaws

@@ -11,6 +11,7 @@ mod view;
 ghost use mathlib.Core.Path.{_≡_};
 ghost use Rattle.hostname.specs.Hostname.{isHostName};
 ghost use Rattle.octets.specs.Octets.{checksum};
+ghost use Rattle.string_heap.specs.Tails.{agree, isTail};
 
 #[no_mangle]
 pub extern "C" fn test_host_name(s: &[u8]) -> bool
@@ -24,4 +25,18 @@ pub extern "C" fn test_checksum(s: &[u8], at: usize) -> u8
     ensures { λ r. ⌜ r ≡ checksum (now (s .entry)) at ⌝ }
 {
     octets::sum::checksum(s, at)
+}
+
+#[no_mangle]
+pub extern "C" fn test_common_tail(a: &[u8], b: &[u8]) -> usize
+    ensures { λ r. ⌜ r ≡ agree (now (a .entry)) (now (b .entry)) ⌝ }
+{
+    string_heap::tail::common_tail(a, b)
+}
+
+#[no_mangle]
+pub extern "C" fn test_is_tail(a: &[u8], b: &[u8]) -> bool
+    ensures { λ r. ⌜ r ≡ isTail (now (a .entry)) (now (b .entry)) ⌝ }
+{
+    string_heap::tail::is_tail(a, b)
 }

@@ -16,16 +16,16 @@ returns c =
     let p = c .before .before .before .before .before .pre in
     host-not _ _ (p .0) _ _ (p .2) _ (p .3) _ (sizes-at _ _ _ (p .1) _ (p .3)) (search needs)
 
-is-tail-requires : tie.Need-is-tail-requires
-is-tail-requires c κs =
+ends-with-requires : tie.Need-ends-with-requires
+ends-with-requires c κs =
     let p = c .before .before .before .before .before .before .pre in
     let lies = size-lies _ _ _ (p .0) (p .3) _ (sizes-at _ _ _ (p .1) _ (p .3)) (omega arith) _ (c .entry-start .ensures) in
-    (p .2, lies .fits, omega arith)
+    (p .2, lies .fits)
 
 returns-2 : tie.Need-returns-2
 returns-2 c =
     let p = c .before .before .before .before .before .before .before .pre in
-    host-tail _ _ (p .0) _ _ (p .2) _ (p .3) _ (sizes-at _ _ _ (p .1) _ (p .3)) (omega arith) _ (c .before .entry-start .ensures) _ (c .is-tail .ensures)
+    host-tail _ _ (p .0) _ _ (p .2) _ (p .3) _ (sizes-at _ _ _ (p .1) _ (p .3)) (omega arith) _ (c .before .entry-start .ensures) _ (c .ends-with .ensures)
 
 pub is-host-spec : {M : Type 1} → statement M
-is-host-spec = tie.close (tie.spec (search needs) shared-slice-read-other cast-other returns (search needs) (search needs) (search needs) is-tail-requires returns-2)
+is-host-spec = tie.close (tie.spec (search needs) shared-slice-read-other cast-other returns (search needs) (search needs) (search needs) ends-with-requires returns-2)

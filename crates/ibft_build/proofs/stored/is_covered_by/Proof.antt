@@ -23,17 +23,30 @@ returns-2 c =
     let p = c .before .before .before .before .before .before .before .pre in
     covered-late _ _ _ _ _ _ (p .0) (p .2) (p .3) _ (wanted-at _ _ (p .1) _ (p .3)) (omega arith) (omega arith)
 
-is-tail-requires : tie.Need-is-tail-requires
-is-tail-requires c κs =
+begins-differently-requires : tie.Need-begins-differently-requires
+begins-differently-requires c κs =
     let p = c .before .before .before .before .before .before .before .pre in
     let lies = lies-at _ _ _ (p .0) (p .3) _ _ (wanted-at _ _ (p .1) _ (p .3)) (omega arith) (c .entry-start .ensures) in
     (p .2, lies .fits, omega arith)
 
 returns-3 : tie.Need-returns-3
 returns-3 c =
-    let p = c .before .before .before .before .before .before .before .before .pre in
+    let p = c .before .before .before .before .before .before .before .before .before .pre in
     covered-tail _ _ _ _ _ _ (p .0) (p .2) (p .3) _ (wanted-at _ _ (p .1) _ (p .3)) (omega arith)
-    (λ e. ⊎-elim (λ w. omega arith) (λ w. omega arith) (c .before .before .if2 .came)) _ (c .before .entry-start .ensures) _ (c .is-tail .ensures)
+    (λ e. ⊎-elim (λ w. omega arith) (λ w. omega arith) (c .before .before .before .if2 .came)) _ (c .before .before .entry-start .ensures) _
+    (c .before .begins-differently .ensures (c .if4 .taken))
+
+ends-with-requires : tie.Need-ends-with-requires
+ends-with-requires c κs =
+    let p = c .before .before .before .before .before .before .before .before .before .pre in
+    let lies = lies-at _ _ _ (p .0) (p .3) _ _ (wanted-at _ _ (p .1) _ (p .3)) (omega arith) (c .before .before .entry-start .ensures) in
+    (p .2, lies .fits)
+
+returns-4 : tie.Need-returns-4
+returns-4 c =
+    let p = c .before .before .before .before .before .before .before .before .before .before .pre in
+    covered-tail _ _ _ _ _ _ (p .0) (p .2) (p .3) _ (wanted-at _ _ (p .1) _ (p .3)) (omega arith)
+    (λ e. ⊎-elim (λ w. omega arith) (λ w. omega arith) (c .before .before .before .before .if2 .came)) _ (c .before .before .before .entry-start .ensures) _ (c .ends-with .ensures)
 
 pub is-covered-by-spec : {M : Type 1} → statement M
-is-covered-by-spec = tie.close (tie.spec (search needs) shared-slice-read-other cast-other returns (search needs) returns-2 (search needs) (search needs) (search needs) is-tail-requires returns-3)
+is-covered-by-spec = tie.close (tie.spec (search needs) shared-slice-read-other cast-other returns (search needs) returns-2 (search needs) (search needs) (search needs) begins-differently-requires returns-3 (search needs) ends-with-requires returns-4)
