@@ -1,6 +1,6 @@
 /*
- * The peak stack of the exported calls and of the host name check, on a painted
- * stack of their own. Exits 1 above the limits: the firmware's stack is 4 KiB.
+ * The peak stack of the exported calls, of the host name check and of the tail
+ * test, on a painted stack of their own. Exits 1 above the limits: the firmware's stack is 4 KiB.
  *
  * What counts is the way from the caller's stack pointer down to the deepest
  * byte written, the call's return address included. A byte written with the
@@ -18,6 +18,7 @@
 #include <ucontext.h>
 
 bool test_host_name(const uint8_t *name, size_t name_size);
+size_t test_common_tail(const uint8_t *a, size_t a_size, const uint8_t *b, size_t b_size);
 
 enum {
     STACK_SIZE = 1 << 20,
@@ -25,6 +26,7 @@ enum {
     SCAN_LIMIT = 4096,
     CHECK_LIMIT = 4096,
     HOST_NAME_LIMIT = 256,
+    TAIL_LIMIT = 256,
     WINDOW_SIZE = IBFT_WINDOW_END - IBFT_WINDOW_START,
     LONG_NAME = 20001,
 };
@@ -61,6 +63,12 @@ static void run_host_name(struct call *call)
 {
     STACK_POINTER(call->stack_pointer);
     call->answer = test_host_name(call->bytes, call->size);
+}
+
+static void run_tail(struct call *call)
+{
+    STACK_POINTER(call->stack_pointer);
+    call->answer = test_common_tail(call->bytes + 2, call->size - 2, call->bytes, call->size);
 }
 
 /* Leaving a context writes to its stack too. The headroom puts the measured
@@ -136,6 +144,13 @@ static void measure_host_name(const char *what, size_t size)
     struct call call = { .run = run_host_name, .bytes = name, .size = size };
 
     measure(what, call, true, HOST_NAME_LIMIT);
+}
+
+static void measure_tail(const char *what, size_t size)
+{
+    struct call call = { .run = run_tail, .bytes = name, .size = size };
+
+    measure(what, call, size - 2, TAIL_LIMIT);
 }
 
 /* A signature at every place, each claiming `length` bytes. */
@@ -288,5 +303,7 @@ int main(void)
     measure_builds();
     measure_host_name("host name, 255 bytes with 127 dots", 255);
     measure_host_name("host name, 20001 bytes with 10000 dots", sizeof name);
+    measure_tail("tail test, 253 bytes that agree", 255);
+    measure_tail("tail test, 19999 bytes that agree", sizeof name);
     return 0;
 }
