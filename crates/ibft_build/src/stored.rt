@@ -37,7 +37,7 @@ fn wanted_sizes(range: &[u8]) -> [u32; ENTRY_COUNT as usize]
     sizes
 }
 
-// Does the entry of `other_size` bytes from `other` on end with that of `size` bytes from `start` on?
+// Does the entry of `other_size` bytes from `other` on, which is no shorter, end with that of `size` bytes from `start` on?
 pub(crate) fn ends_with(
     strings: &[u8],
     start: usize,
@@ -45,7 +45,7 @@ pub(crate) fn ends_with(
     other: usize,
     other_size: usize,
 ) -> bool
-    requires { ⌜ (start + size ≤ length (now strings)) × (other + «other_size» ≤ length (now strings)) ⌝ }
+    requires { ⌜ (start + size ≤ length (now strings)) × (other + «other_size» ≤ length (now strings)) × (size ≤ «other_size») ⌝ }
     ensures { λ r. ⌜ r ≡ isTail (part (now (strings .entry)) start size) (part (now (strings .entry)) other «other_size») ⌝ }
 {
     is_tail(

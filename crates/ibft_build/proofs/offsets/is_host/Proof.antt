@@ -20,7 +20,7 @@ ends-with-requires : tie.Need-ends-with-requires
 ends-with-requires c κs =
     let p = c .before .before .before .before .before .before .pre in
     let lies = size-lies _ _ _ (p .0) (p .3) _ (sizes-at _ _ _ (p .1) _ (p .3)) (omega arith) _ (c .entry-start .ensures) in
-    (p .2, lies .fits)
+    (p .2, lies .fits, omega arith)
 
 returns-2 : tie.Need-returns-2
 returns-2 c =

@@ -40,7 +40,7 @@ ends-with-requires : tie.Need-ends-with-requires
 ends-with-requires c κs =
     let p = c .before .before .before .before .before .before .before .before .before .pre in
     let lies = lies-at _ _ _ (p .0) (p .3) _ _ (wanted-at _ _ (p .1) _ (p .3)) (omega arith) (c .before .before .entry-start .ensures) in
-    (p .2, lies .fits)
+    (p .2, lies .fits, omega arith)
 
 returns-4 : tie.Need-returns-4
 returns-4 c =
