@@ -30,7 +30,7 @@
  * is added; MAJOR where a program that was written for an earlier version may
  * have to be changed, and MINOR is 0 then. */
 #define BOOTFW_VERSION_MAJOR 1
-#define BOOTFW_VERSION_MINOR 0
+#define BOOTFW_VERSION_MINOR 1
 #define BOOTFW_VERSION (BOOTFW_VERSION_MAJOR * 0x10000 + BOOTFW_VERSION_MINOR)
 
 /* A layout that differs from the published one must not compile. The array of
@@ -61,10 +61,10 @@ extern "C" {
 #define IBFT_REVISION          1u
 #define IBFT_STRUCTURE_VERSION 1u
 #define IBFT_CONTROL_OFFSET    48u    /* where Control stands: behind the table's header */
-#define IBFT_FIRST_START       72u    /* no other structure starts below */
+#define IBFT_FIRST_START       72u    /* no other structure starts below, nor below Control's end */
 #define IBFT_START_ALIGNMENT   8u     /* structures start at multiples of it */
 #define IBFT_LEAST_LENGTH      66u    /* header and Control: the check accepts none shorter */
-#define IBFT_LARGEST_LENGTH    3702u  /* ibft_build writes none longer */
+#define IBFT_LARGEST_LENGTH    3702u  /* ibft_build writes none longer without extra structures */
 #define IBFT_LONGEST_NAME      223u   /* bytes of an initiator's or a target's name */
 #define IBFT_LONGEST_STRING    255u   /* bytes of any other string */
 #define IBFT_ISCSI_PORT        3260u  /* the TCP port that iSCSI targets mostly have */
@@ -77,7 +77,8 @@ enum ibft_structure_id {
     IBFT_ID_TARGET = 4
 };
 
-/* The places for structures, numbered as Control's words stand. */
+/* The places for structures that have a word of their own in Control, numbered as
+ * these words stand. Extra structures come behind them: see below. */
 enum ibft_slot {
     IBFT_SLOT_INITIATOR = 0,
     IBFT_SLOT_NIC0 = 1,
@@ -89,7 +90,8 @@ enum ibft_slot {
 
 BOOTFW_ASSERT(slots, IBFT_SLOTS == IBFT_SLOT_TARGET1 + 1);
 
-/* The strings, numbered by slot and within it in the order of the fields. */
+/* The strings of these structures, numbered by slot and within it in the order of
+ * the fields. */
 enum ibft_entry_number {
     IBFT_ENTRY_INITIATOR_NAME = 0,
     IBFT_ENTRY_NIC0_HOST_NAME = 1,
@@ -108,6 +110,45 @@ enum ibft_entry_number {
 #define IBFT_ENTRIES 13
 
 BOOTFW_ASSERT(entries, IBFT_ENTRIES == IBFT_ENTRY_TARGET1_REVERSE_CHAP_SECRET + 1);
+
+/* The strings of one target, in the order of its fields. */
+enum ibft_target_string {
+    IBFT_TARGET_STRING_NAME = 0,
+    IBFT_TARGET_STRING_CHAP_NAME = 1,
+    IBFT_TARGET_STRING_CHAP_SECRET = 2,
+    IBFT_TARGET_STRING_REVERSE_CHAP_NAME = 3,
+    IBFT_TARGET_STRING_REVERSE_CHAP_SECRET = 4
+};
+#define IBFT_TARGET_STRINGS 5
+
+BOOTFW_ASSERT(target_strings, IBFT_TARGET_STRINGS == IBFT_TARGET_STRING_REVERSE_CHAP_SECRET + 1);
+
+/* Extra structures: NICs and targets beyond the named ones, each with a word of its
+ * own behind Control's named words and an Index from IBFT_LEAST_EXTRA_INDEX up to
+ * 255 that no other extra of its kind has. In tables and records that have extras these
+ * hold in place of IBFT_SLOTS, IBFT_ENTRIES and IBFT_LARGEST_LENGTH. */
+#define IBFT_MOST_EXTRAS                6      /* extra NICs, and as many extra targets */
+#define IBFT_MOST_EXTRA_WORDS           12     /* words of Control, unused ones counted */
+#define IBFT_LEAST_EXTRA_INDEX          2u
+#define IBFT_MOST_SLOTS                 17
+#define IBFT_MOST_ENTRIES               49
+#define IBFT_LONGEST_CONTROL            42u    /* Control's Length with all its words */
+#define IBFT_LARGEST_RECORD             1393u  /* bytes of a record range with all extras */
+#define IBFT_LARGEST_LENGTH_WITH_EXTRAS 13710u /* ibft_build writes none longer */
+
+BOOTFW_ASSERT(most_words, IBFT_MOST_EXTRA_WORDS == 2 * IBFT_MOST_EXTRAS);
+BOOTFW_ASSERT(most_slots, IBFT_MOST_SLOTS == IBFT_SLOTS + 2 * IBFT_MOST_EXTRAS);
+BOOTFW_ASSERT(most_entries, IBFT_MOST_ENTRIES == IBFT_ENTRIES + IBFT_MOST_EXTRAS
+                                + IBFT_TARGET_STRINGS * IBFT_MOST_EXTRAS);
+
+/* The numbers of extras go on from the named ones without a gap: first the extra
+ * NICs by Index, then the extra targets by Index. `i` counts those of a kind from
+ * 0; `nics` is how many extra NICs there are. A NIC has one string, its host name; a
+ * target has five, to be added as enum ibft_target_string. */
+#define IBFT_SLOT_EXTRA_NIC(i)           (IBFT_SLOTS + (i))
+#define IBFT_SLOT_EXTRA_TARGET(nics, i)  (IBFT_SLOTS + (nics) + (i))
+#define IBFT_ENTRY_EXTRA_NIC(i)          (IBFT_ENTRIES + (i))
+#define IBFT_ENTRY_EXTRA_TARGET(nics, i) (IBFT_ENTRIES + (nics) + IBFT_TARGET_STRINGS * (i))
 
 enum ibft_chap_type {
     IBFT_CHAP_TYPE_NONE = 0,
@@ -153,7 +194,8 @@ BOOTFW_FIELD(ibft_table_header, reserved, 24);
 struct ibft_structure_header {
     uint8_t id;      /* 0: enum ibft_structure_id */
     uint8_t version; /* 1: IBFT_STRUCTURE_VERSION */
-    uint16_t length; /* 2: sizeof the structure: Control 18, initiator 74, NIC 102, target 54 */
+    uint16_t length; /* 2: sizeof the structure: initiator 74, NIC 102, target 54; Control 18,
+                      * and two more for each extra word */
     uint8_t index;   /* 4: n for NIC n and Target n, else 0 */
     uint8_t flags;   /* 5 */
 } __attribute__((packed));
@@ -165,7 +207,9 @@ BOOTFW_FIELD(ibft_structure_header, length, 2);
 BOOTFW_FIELD(ibft_structure_header, index, 4);
 BOOTFW_FIELD(ibft_structure_header, flags, 5);
 
-/* At IBFT_CONTROL_OFFSET of every table. */
+/* At IBFT_CONTROL_OFFSET of every table. Where its Length is above 18, extra words
+ * follow, each the start of a NIC or a target, or 0 if it is unused; their order
+ * says nothing. They are none of this struct, since most tables have none. */
 struct ibft_control {
     struct ibft_structure_header header; /* 0 */
     uint16_t extensions;                 /* 6: 0, or the check refuses the table */
@@ -178,6 +222,18 @@ BOOTFW_FIELD(ibft_control, extensions, 6);
 BOOTFW_FIELD(ibft_control, slot_offset, 8);
 BOOTFW_ASSERT(least_length, sizeof(struct ibft_table_header) + sizeof(struct ibft_control)
                                 == IBFT_LEAST_LENGTH);
+BOOTFW_ASSERT(longest_control, sizeof(struct ibft_control) + 2 * IBFT_MOST_EXTRA_WORDS
+                                   == IBFT_LONGEST_CONTROL);
+
+/* Control's words as a row, of a table that the check accepted: the named ones, by
+ * enum ibft_slot, then the extra ones. How many there are, and where word w stands
+ * in the table. */
+static inline unsigned ibft_control_words(const struct ibft_control *control)
+{
+    return IBFT_SLOTS + (control->header.length - (unsigned)sizeof *control) / 2u;
+}
+#define IBFT_WORD_OFFSET(w) \
+    (IBFT_CONTROL_OFFSET + offsetof(struct ibft_control, slot_offset) + 2u * (w))
 
 /* Where a string stands. In a table `offset` counts from the table's first
  * byte; length 0 with offset 0 is a missing string, length 0 with another
@@ -310,11 +366,60 @@ BOOTFW_FIELD(ibft_record, target0, 209);
 BOOTFW_FIELD(ibft_record, nic1, 263);
 BOOTFW_FIELD(ibft_record, target1, 365);
 
+/* A record with extra structures is one range too: a struct ibft_expanded_record,
+ * directly behind it the extra NICs by ascending Index, directly behind these the
+ * extra targets by ascending Index. A record that has none may end with its struct
+ * ibft_record. Packed structs leave nothing between them, so a firmware that knows
+ * how many extras it has can declare
+ *
+ *     struct { struct ibft_expanded_record start;
+ *              struct ibft_extra_nic nics[2];
+ *              struct ibft_extra_target targets[1]; } record;
+ */
+struct ibft_expanded_record {
+    struct ibft_record named; /* 0 */
+    uint8_t extra_nics;       /* 419: how many follow */
+    uint8_t extra_targets;    /* 420: how many follow those */
+} __attribute__((packed));
+
+BOOTFW_SIZE(ibft_expanded_record, 421);
+BOOTFW_FIELD(ibft_expanded_record, named, 0);
+BOOTFW_FIELD(ibft_expanded_record, extra_nics, 419);
+BOOTFW_FIELD(ibft_expanded_record, extra_targets, 420);
+
+/* Of an extra's header the Index is looked at beside the flags. */
+struct ibft_extra_nic {
+    struct ibft_nic nic;       /* 0 */
+    uint8_t host_name_present; /* 102: a mark */
+} __attribute__((packed));
+
+BOOTFW_SIZE(ibft_extra_nic, 103);
+BOOTFW_FIELD(ibft_extra_nic, nic, 0);
+BOOTFW_FIELD(ibft_extra_nic, host_name_present, 102);
+
+struct ibft_extra_target {
+    struct ibft_target target;                   /* 0 */
+    uint8_t string_present[IBFT_TARGET_STRINGS]; /* 54: marks, by enum ibft_target_string */
+} __attribute__((packed));
+
+BOOTFW_SIZE(ibft_extra_target, 59);
+BOOTFW_FIELD(ibft_extra_target, target, 0);
+BOOTFW_FIELD(ibft_extra_target, string_present, 54);
+
+/* The size of the range with so many extra NICs and extra targets. */
+#define IBFT_RECORD_SIZE(nics, targets)                                       \
+    (sizeof(struct ibft_expanded_record) + (nics) * sizeof(struct ibft_extra_nic) \
+     + (targets) * sizeof(struct ibft_extra_target))
+
+BOOTFW_ASSERT(largest_record, IBFT_RECORD_SIZE(IBFT_MOST_EXTRAS, IBFT_MOST_EXTRAS)
+                                  == IBFT_LARGEST_RECORD);
+
 /* ---- Answers --------------------------------------------------------------- */
 
 /* The number of an answer: 0, or why the call refused. A scan gives 1 and 2, a
- * check 3 to 19, a build 8, 10, 17 to 21, 24 and 25. The numbers 22 and 23 belong
- * to readings, which C makes through the structures: no call here gives them. */
+ * check 3 to 19, 33 and 34, a build 8, 10, 13, 17 to 21, 24, 25, 33 and 34. The
+ * numbers 22 and 23 belong to readings, which C makes through the structures: no call
+ * here gives them. */
 enum ibft_refusal {
     IBFT_ACCEPTED = 0,               /* no refusal */
     IBFT_REFUSED_PAST_WINDOW = 1,    /* scan: address + size above 0x100000 */
@@ -325,10 +430,10 @@ enum ibft_refusal {
     IBFT_REFUSED_SUM = 6,            /* the table's bytes do not sum to 0 modulo 256 */
     IBFT_REFUSED_REVISION = 7,       /* Revision is not 1 */
     IBFT_REFUSED_OEM_TAIL = 8,       /* an OEM field goes on after its first zero byte */
-    IBFT_REFUSED_CONTROL = 9,        /* Control's ID, version, length or Index */
+    IBFT_REFUSED_CONTROL = 9,        /* Control's ID, version, length or Index, or its end */
     IBFT_REFUSED_FLAGS = 10,         /* a reserved flag bit is set */
     IBFT_REFUSED_EXTENSIONS = 11,    /* the Extensions word is not 0 */
-    IBFT_REFUSED_START = 12,         /* a structure starts off 8, below 72, or ends past Length */
+    IBFT_REFUSED_START = 12,         /* a structure is off 8, below Control's end or past Length */
     IBFT_REFUSED_STRUCTURE = 13,     /* a structure's ID, version, length or Index */
     IBFT_REFUSED_OVERLAP = 14,       /* two structures share a byte */
     IBFT_REFUSED_ENTRY_PLACE = 15,   /* a string is not in the heap, or has length but no offset */
@@ -339,9 +444,11 @@ enum ibft_refusal {
     IBFT_REFUSED_ENTRY_ZERO = 20,    /* build: a zero byte in a string */
     IBFT_REFUSED_ROOM = 21,          /* build: the least Length exceeds the room */
     IBFT_REFUSED_MISSING = 22,       /* reading: structure or string not there */
-    IBFT_REFUSED_NO_SUCH = 23,       /* reading: slot above 4 or entry above 12 */
+    IBFT_REFUSED_NO_SUCH = 23,       /* reading: slot above 16 or entry above 48 */
     IBFT_REFUSED_ENTRY_OUTSIDE = 24, /* build: a string ends past the range lent for strings */
-    IBFT_REFUSED_RECORD = 25         /* build: record of another size, or a mark not 0 or 1 */
+    IBFT_REFUSED_RECORD = 25,        /* build: record of another size, or a mark not 0 or 1 */
+    IBFT_REFUSED_SAME_INDEX = 33,    /* an extra's Index is taken; build: or not ascending */
+    IBFT_REFUSED_SEVENTH_EXTRA = 34  /* a seventh extra NIC or extra target */
 };
 
 /* In a build, the place of IBFT_REFUSED_FLAGS where the flags are Control's. */
@@ -363,7 +470,7 @@ static inline const char *ibft_refusal_text(unsigned number)
     case IBFT_REFUSED_CONTROL:       return "Control's ID, version, length or Index is wrong";
     case IBFT_REFUSED_FLAGS:         return "a reserved flag bit is set";
     case IBFT_REFUSED_EXTENSIONS:    return "the Extensions word is not 0";
-    case IBFT_REFUSED_START:         return "a structure is misaligned, below 72 or past Length";
+    case IBFT_REFUSED_START:         return "a structure is misaligned, too low or past Length";
     case IBFT_REFUSED_STRUCTURE:     return "a structure's ID, version, length or Index is wrong";
     case IBFT_REFUSED_OVERLAP:       return "two structures share a byte";
     case IBFT_REFUSED_ENTRY_PLACE:   return "a string is not in the heap, or has no offset";
@@ -377,6 +484,8 @@ static inline const char *ibft_refusal_text(unsigned number)
     case IBFT_REFUSED_NO_SUCH:       return "there is no such slot or entry";
     case IBFT_REFUSED_ENTRY_OUTSIDE: return "a string ends past the range lent for strings";
     case IBFT_REFUSED_RECORD:        return "the record's size or a presence mark is wrong";
+    case IBFT_REFUSED_SAME_INDEX:    return "an extra's Index is taken, or does not ascend";
+    case IBFT_REFUSED_SEVENTH_EXTRA: return "a seventh extra NIC or extra target";
     default:                         return "no refusal has this number";
     }
 }
@@ -426,16 +535,16 @@ BOOTFW_ASSERT(size_t_is_64_bits, sizeof(size_t) == 8);
 uint64_t ibft_scan(const uint8_t *memory, size_t memory_size, uint64_t address) BOOTFW_CALL;
 
 /* Checks the table that starts with the first of the lent bytes; more may be
- * lent than its Length. Answers 0 with place 0; or the first of 3 to 19 that
- * applies, with its place. Bits 32-63 are 0. Writes nothing. */
+ * lent than its Length. Answers 0 with place 0; or the first of 3 to 19, 33 and 34
+ * that applies, with its place. Bits 32-63 are 0. Writes nothing. */
 uint64_t ibft_check(const uint8_t *table, size_t table_size) BOOTFW_CALL;
 
 /* Builds the shortest table of a record into the room. The record is one struct
- * ibft_record; its strings stand in the range lent for them. The room shares no
- * byte with either: that is taken on trust. Answers 0 with place 0 and the
- * table's Length, and the room past that keeps its bytes; or the first of 25, 8,
- * 10, 19, 24, 17, 20, 18 and 21 that applies, with its place and Length 0, and
- * writes nothing. */
+ * ibft_record, or a struct ibft_expanded_record with its extras behind it; its
+ * strings stand in the range lent for them. The room shares no byte with either:
+ * that is taken on trust. Answers 0 with place 0 and the table's Length, and the
+ * room past that keeps its bytes; or the first of 25, 8, 34, 13, 33, 10, 19, 24, 17,
+ * 20, 18 and 21 that applies, with its place and Length 0, and writes nothing. */
 uint64_t ibft_build(const uint8_t *record, size_t record_size,
                     const uint8_t *strings, size_t strings_size,
                     uint8_t *room, size_t room_size) BOOTFW_CALL;

@@ -1,78 +1,13 @@
 /*
  * A boot program that has no C library, no heap and 4 KiB of stack. It finds the
- * iBFT in low memory, or builds one from a record of its own; checks it; and
- * takes from it what a login to the first target needs.
+ * iBFT in low memory, or builds one from the record that it is handed; checks it;
+ * and takes from it what a login to the first target needs.
  */
 #include "boot.h"
 
 /* From start.c: there is no string.h here. */
 void *memset(void *to, int byte, size_t size);
 void *memcpy(void *restrict to, const void *restrict from, size_t size);
-
-/* ---- What is built where memory has no table ------------------------------- */
-
-/* The strings, as one range of bytes. Each has a zero byte behind it only
- * because that is how C writes strings: the build does not want one. The host
- * name is the tail of the initiator's name: in the table they share bytes. */
-static const struct strings {
-    char initiator_name[sizeof "iqn.2026-11.example:crane7"];
-    char host_name[sizeof "crane7"];
-    char target_name[sizeof "iqn.2026-11.example:depot1"];
-    char chap_name[sizeof "depot7"];
-    char chap_secret[sizeof "secret-of-12"];
-} strings = {
-    .initiator_name = "iqn.2026-11.example:crane7",
-    .host_name = "crane7",
-    .target_name = "iqn.2026-11.example:depot1",
-    .chap_name = "depot7",
-    .chap_secret = "secret-of-12",
-};
-
-/* The words of a string in a record: its length and its start in the range. */
-#define STRING(field) \
-    { .length = sizeof strings.field - 1, .offset = offsetof(struct strings, field) }
-
-/* An initiator, NIC 0 and Target 0, with the strings above. What is not named is
- * zero: absent, missing, or not looked at. */
-static const struct ibft_record record = {
-    .oem_id = "DEPOT",
-    .oem_table_id = "EXAMPLE",
-    .slot_present = {
-        [IBFT_SLOT_INITIATOR] = IBFT_PRESENT,
-        [IBFT_SLOT_NIC0] = IBFT_PRESENT,
-        [IBFT_SLOT_TARGET0] = IBFT_PRESENT,
-    },
-    .entry_present = {
-        [IBFT_ENTRY_INITIATOR_NAME] = IBFT_PRESENT,
-        [IBFT_ENTRY_NIC0_HOST_NAME] = IBFT_PRESENT,
-        [IBFT_ENTRY_TARGET0_NAME] = IBFT_PRESENT,
-        [IBFT_ENTRY_TARGET0_CHAP_NAME] = IBFT_PRESENT,
-        [IBFT_ENTRY_TARGET0_CHAP_SECRET] = IBFT_PRESENT,
-    },
-    .initiator = {
-        .header = { .flags = IBFT_INITIATOR_VALID | IBFT_INITIATOR_SELECTED },
-        .name = STRING(initiator_name),
-    },
-    .nic0 = {
-        .header = { .flags = IBFT_NIC_VALID | IBFT_NIC_SELECTED },
-        .ip_address = IBFT_IPV4(10, 0, 2, 15),
-        .subnet_mask_prefix = 24,
-        .gateway = IBFT_IPV4(10, 0, 2, 2),
-        .mac_address = { 0x52, 0x54, 0x00, 0x12, 0x34, 0x56 },
-        .pci_bus_dev_func = IBFT_PCI(0, 3, 0),
-        .host_name = STRING(host_name),
-    },
-    .target0 = {
-        .header = { .flags = IBFT_TARGET_VALID | IBFT_TARGET_SELECTED },
-        .ip_address = IBFT_IPV4(10, 0, 2, 2),
-        .ip_socket = IBFT_ISCSI_PORT,
-        .chap_type = IBFT_CHAP_TYPE_CHAP,
-        .nic_association = 0,
-        .name = STRING(target_name),
-        .chap_name = STRING(chap_name),
-        .chap_secret = STRING(chap_secret),
-    },
-};
 
 /* ---- Finding, building and checking ---------------------------------------- */
 
@@ -121,19 +56,19 @@ static bool room_is_usable(const struct boot_machine *machine)
         && machine->room_size <= machine->memory_size - (room - memory);
 }
 
-/* Builds the table of the record above and scans for it. A damaged table below
- * the room may reach into it, and its bytes may sum to 0 now that some of them
- * were written: then a scan finds that place first. */
+/* Builds the table of the record and scans for it. A damaged table below the room
+ * may reach into it, and its bytes may sum to 0 now that some of them were written:
+ * then a scan finds that place first. */
 static enum boot_status build_table(struct boot_machine *machine)
 {
+    const struct boot_record *record = machine->record;
     struct boot_report *report = &machine->report;
     enum boot_status status;
     uint64_t answer;
 
     if (!room_is_usable(machine))
         return BOOT_ROOM_REFUSED;
-    answer = ibft_build((const uint8_t *)&record, sizeof record,
-                        (const uint8_t *)&strings, sizeof strings,
+    answer = ibft_build(record->range, record->range_size, record->strings, record->strings_size,
                         bytes_at(machine, machine->room_address), machine->room_size);
     if (ibft_answer_number(answer) != IBFT_ACCEPTED)
         return refused(report, answer, BOOT_BUILD_REFUSED);
@@ -165,27 +100,50 @@ static struct ibft_control control_of(const uint8_t *table)
     return control;
 }
 
-/* Whether the structure at this start is there with all of these flags. */
-static bool has_flags(const uint8_t *table, uint16_t start, uint8_t flags)
+/* Control's word w, an extra one too: where its structure starts, 0 if it has none. */
+static uint16_t start_at(const uint8_t *table, unsigned w)
 {
-    size_t at = start + offsetof(struct ibft_structure_header, flags);
+    uint16_t start;
 
-    return start != 0 && (table[at] & flags) == flags;
+    memcpy(&start, table + IBFT_WORD_OFFSET(w), sizeof start);
+    return start;
 }
 
-/* Where the lowest target with all of these flags starts; 0 if none has them. */
+/* Whether a structure of this kind starts there, with all of these flags. */
+static bool has_flags(const uint8_t *table, uint16_t start, enum ibft_structure_id id,
+                      uint8_t flags)
+{
+    struct ibft_structure_header header;
+
+    memcpy(&header, table + start, sizeof header);
+    return start != 0 && header.id == id && (header.flags & flags) == flags;
+}
+
+static uint8_t index_of(const uint8_t *table, uint16_t start)
+{
+    return table[start + offsetof(struct ibft_structure_header, index)];
+}
+
+/* Where the target with all of these flags and the lowest Index starts; 0 if none
+ * has them. Extra words stand in any order. */
 static uint16_t target_with(const uint8_t *table, const struct ibft_control *control,
                             uint8_t flags)
 {
-    if (has_flags(table, control->slot_offset[IBFT_SLOT_TARGET0], flags))
-        return control->slot_offset[IBFT_SLOT_TARGET0];
-    if (has_flags(table, control->slot_offset[IBFT_SLOT_TARGET1], flags))
-        return control->slot_offset[IBFT_SLOT_TARGET1];
-    return 0;
+    uint16_t lowest = 0;
+
+    for (unsigned w = 0; w < ibft_control_words(control); w++) {
+        uint16_t start = start_at(table, w);
+
+        if (!has_flags(table, start, IBFT_ID_TARGET, flags))
+            continue;
+        if (lowest == 0 || index_of(table, start) < index_of(table, lowest))
+            lowest = start;
+    }
+    return lowest;
 }
 
-/* The target to log in to first: the lowest that is valid; where Control asks
- * for a single login, the selected one if it is valid. */
+/* The target to log in to first: the lowest Index that is valid; where Control asks
+ * for a single login, the lowest that is selected too, if there is one. */
 static uint16_t first_target(const uint8_t *table, const struct ibft_control *control)
 {
     uint16_t start = 0;
@@ -226,7 +184,7 @@ static void take_initiator(const uint8_t *table, uint16_t start, struct boot_log
 {
     struct ibft_initiator initiator;
 
-    if (!has_flags(table, start, IBFT_INITIATOR_VALID))
+    if (!has_flags(table, start, IBFT_ID_INITIATOR, IBFT_INITIATOR_VALID))
         return;
     memcpy(&initiator, table + start, sizeof initiator);
     login->initiator_name = text_of(table, initiator.name);

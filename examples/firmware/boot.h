@@ -1,8 +1,8 @@
 /*
  * The boot program of this example: what it is handed and what it answers.
  *
- * boot.c is the program, start.c what a machine without a C library has to
- * bring, host.c a machine to try both on.
+ * boot.c is the program, records.c what it can build a table from, start.c what a
+ * machine without a C library has to bring, host.c a machine to try them on.
  */
 #ifndef BOOT_H
 #define BOOT_H
@@ -13,8 +13,8 @@
 #include <stddef.h>
 #include <stdint.h>
 
-#if BOOTFW_VERSION_MAJOR != 1
-#error "this example is written for version 1 of bootfw.h"
+#if BOOTFW_VERSION_MAJOR != 1 || BOOTFW_VERSION < 0x10001
+#error "this example is written for version 1 of bootfw.h, from 1.1 on"
 #endif
 
 enum boot_status {
@@ -62,12 +62,24 @@ struct boot_report {
     struct boot_login login; /* counts where the status is BOOT_READY */
 };
 
+/* What a table is built from: a record and its strings, as the build is lent them. */
+struct boot_record {
+    const uint8_t *range;
+    size_t range_size;
+    const uint8_t *strings;
+    size_t strings_size;
+};
+
+extern const struct boot_record boot_cabinet; /* one NIC and one target */
+extern const struct boot_record boot_depot;   /* four NICs and three targets */
+
 struct boot_machine {
     uint8_t *memory; /* low memory */
     size_t memory_size;
-    uint64_t memory_address; /* of its first byte, in the machine */
-    uint64_t room_address;   /* memory kept free for a table */
-    size_t room_size;        /* 0: there is none, build nothing */
+    uint64_t memory_address;          /* of its first byte, in the machine */
+    uint64_t room_address;            /* memory kept free for a table */
+    size_t room_size;                 /* 0: there is none, build nothing */
+    const struct boot_record *record; /* what to build where there is no table */
     struct boot_report report;
 };
 

@@ -19,15 +19,19 @@ enum {
     DAMAGED = 0x9EF00, /* a damaged table below the room */
     ROOM = 0x9F000,    /* the last 4 KiB below 640 KiB */
     ROOM_SIZE = 4096,
-    BUILT_LENGTH = 384 /* the table of the boot program's record */
+    CABINET_LENGTH = 384, /* the tables of the two records */
+    DEPOT_LENGTH = 868
 };
 
-_Static_assert(ROOM_SIZE >= IBFT_LARGEST_LENGTH, "the room is enough for every record");
+_Static_assert(ROOM_SIZE >= IBFT_LARGEST_LENGTH, "the room is enough without extras");
+
+/* The Control word of the depot's second extra NIC. */
+enum { LAST_NIC_WORD = IBFT_WORD_OFFSET(IBFT_SLOT_EXTRA_NIC(1)) };
 
 /* Memory and stack hold these before a run. */
 enum { MEMORY_BYTE = 0xA5, PAINT = 0x5A };
 
-enum { STACK_LIMIT = 1024 };
+enum { STACK_LIMIT = 2048 };
 
 static const char *samples;
 static const char *title;
@@ -136,8 +140,39 @@ static void leave_no_names(void)
     load("case-5.ibft", TABLE);
 }
 
+/* The depot's table, as the boot program built it before. */
+static void leave_depot(void)
+{
+    struct boot_machine machine = {
+        .memory = memory,
+        .memory_size = MEMORY_SIZE,
+        .room_address = TABLE,
+        .room_size = ROOM_SIZE,
+        .record = &boot_depot,
+    };
+
+    boot(&machine);
+    expect(machine.report.status == BOOT_READY && machine.report.built, "the depot's table");
+}
+
+static void leave_depot_multi_login(void)
+{
+    leave_depot();
+    change(IBFT_CONTROL_OFFSET + offsetof(struct ibft_control, header.flags), 0);
+}
+
+/* The last extra NIC says that it is NIC 4, as the one before it. */
+static void leave_equal_indexes(void)
+{
+    uint16_t start;
+
+    leave_depot();
+    memcpy(&start, memory + TABLE + LAST_NIC_WORD, sizeof start);
+    change(start + offsetof(struct ibft_nic, header.index), 4);
+}
+
 /* A table below the room that reaches to the end of memory: its bytes sum to 0
- * once a table of BUILT_LENGTH bytes, which sum to 0, stands in the room. */
+ * once a table of CABINET_LENGTH bytes, which sum to 0, stands in the room. */
 static void leave_damage_below_room(void)
 {
     uint8_t *table = memory + DAMAGED;
@@ -145,7 +180,7 @@ static void leave_damage_below_room(void)
 
     memcpy(header.signature, IBFT_SIGNATURE, sizeof header.signature);
     memcpy(table, &header, sizeof header);
-    memset(memory + ROOM, 0, BUILT_LENGTH);
+    memset(memory + ROOM, 0, CABINET_LENGTH);
     mend_sum(table);
     memory[ROOM] = 1;
 }
@@ -171,8 +206,10 @@ struct boot_case {
 
 static const char depot1[] = "iqn.2026-11.example:depot1";
 static const char depot2[] = "iqn.2026-11.example:depot2";
+static const char depot7[] = "iqn.2026-11.example:depot7";
 
-static const struct boot_case cases[] = {
+/* With the cabinet's record to build from. */
+static const struct boot_case cabinet_cases[] = {
     { "a table, below it a damaged copy and a stray signature", leave_dump, ALL, depot1,
       { .status = BOOT_READY, FOUND(0x9F830, 597) } },
     { "a table with mutual CHAP", leave_mutual_chap, ALL, depot1,
@@ -182,10 +219,10 @@ static const struct boot_case cases[] = {
     { "two targets, the second selected, a single login", leave_single_login, ALL, depot2,
       { .status = BOOT_READY, FOUND(TABLE, 607), .login = { .target = 1, .nic = 1 } } },
     { "no table", leave_nothing, ALL, depot1,
-      { .status = BOOT_READY, .built = true, FOUND(ROOM, BUILT_LENGTH) } },
+      { .status = BOOT_READY, .built = true, FOUND(ROOM, CABINET_LENGTH) } },
     { "a table with a wrong sum, room just large enough", leave_wrong_sum,
-      0, MEMORY_SIZE, ROOM, BUILT_LENGTH, depot1,
-      { .status = BOOT_READY, .built = true, FOUND(ROOM, BUILT_LENGTH) } },
+      0, MEMORY_SIZE, ROOM, CABINET_LENGTH, depot1,
+      { .status = BOOT_READY, .built = true, FOUND(ROOM, CABINET_LENGTH) } },
     { "a table with CHAP type 3", leave_chap_type_3, ALL, NULL,
       { .status = BOOT_TABLE_REFUSED, FOUND(TABLE, 611),
         REFUSED(IBFT_REFUSED_CHAP_TYPE, TARGET0 + offsetof(struct ibft_target, chap_type)) } },
@@ -199,10 +236,10 @@ static const struct boot_case cases[] = {
     { "no table, no room", leave_nothing, 0, MEMORY_SIZE, 0, 0, NULL,
       { .status = BOOT_NO_TABLE } },
     { "no table, room one byte too small", leave_nothing,
-      0, MEMORY_SIZE, ROOM, BUILT_LENGTH - 1, NULL,
+      0, MEMORY_SIZE, ROOM, CABINET_LENGTH - 1, NULL,
       { .status = BOOT_BUILD_REFUSED, REFUSED(IBFT_REFUSED_ROOM, 0) } },
     { "no table, room at no multiple of 16", leave_nothing,
-      0, MEMORY_SIZE, ROOM + IBFT_TABLE_ALIGNMENT / 2, BUILT_LENGTH, NULL,
+      0, MEMORY_SIZE, ROOM + IBFT_TABLE_ALIGNMENT / 2, CABINET_LENGTH, NULL,
       { .status = BOOT_ROOM_REFUSED } },
     { "no table, room below 512 KiB", leave_nothing,
       0, MEMORY_SIZE, IBFT_WINDOW_START - IBFT_TABLE_ALIGNMENT, ROOM_SIZE, NULL,
@@ -215,9 +252,30 @@ static const struct boot_case cases[] = {
     { "no table, room that starts past the memory", leave_nothing,
       0, TABLE, ROOM, ROOM_SIZE, NULL, { .status = BOOT_ROOM_REFUSED } },
     { "no table, room below the memory", leave_nothing,
-      ROOM, ROOM_SIZE, TABLE, BUILT_LENGTH, NULL, { .status = BOOT_ROOM_REFUSED } },
+      ROOM, ROOM_SIZE, TABLE, CABINET_LENGTH, NULL, { .status = BOOT_ROOM_REFUSED } },
     { "a damaged table that reaches into the room", leave_damage_below_room, ALL, NULL,
       { .status = BOOT_BUILT_NOT_LOWEST, .built = true, FOUND(DAMAGED, MEMORY_SIZE - DAMAGED) } },
+};
+
+/* With the depot's. */
+static const struct boot_case depot_cases[] = {
+    { "no table, four NICs and three targets to build", leave_nothing, ALL, depot7,
+      { .status = BOOT_READY, .built = true, FOUND(ROOM, DEPOT_LENGTH),
+        .login = { .target = 7, .nic = 9 } } },
+    { "the same, room just large enough", leave_nothing,
+      0, MEMORY_SIZE, ROOM, DEPOT_LENGTH, depot7,
+      { .status = BOOT_READY, .built = true, FOUND(ROOM, DEPOT_LENGTH),
+        .login = { .target = 7, .nic = 9 } } },
+    { "the same, room one byte too small", leave_nothing,
+      0, MEMORY_SIZE, ROOM, DEPOT_LENGTH - 1, NULL,
+      { .status = BOOT_BUILD_REFUSED, REFUSED(IBFT_REFUSED_ROOM, 0) } },
+    { "a table with four NICs and three targets", leave_depot, ALL, depot7,
+      { .status = BOOT_READY, FOUND(TABLE, DEPOT_LENGTH), .login = { .target = 7, .nic = 9 } } },
+    { "the same, logins to all targets", leave_depot_multi_login, ALL, depot1,
+      { .status = BOOT_READY, FOUND(TABLE, DEPOT_LENGTH) } },
+    { "the same, two NICs with Index 4", leave_equal_indexes, ALL, NULL,
+      { .status = BOOT_TABLE_REFUSED, FOUND(TABLE, DEPOT_LENGTH),
+        REFUSED(IBFT_REFUSED_SAME_INDEX, LAST_NIC_WORD) } },
 };
 
 /* ---- What the boot program reports ------------------------------------------- */
@@ -277,6 +335,37 @@ static void print_login(const struct boot_login *login)
     print_secret("reverse CHAP secret", login->reverse_chap_secret);
 }
 
+/* The Indexes of a kind of structure, as Control's words go. */
+static void print_indexes(const uint8_t *table, unsigned words, enum ibft_structure_id id)
+{
+    for (unsigned w = 0; w < words; w++) {
+        struct ibft_structure_header header;
+        uint16_t start;
+
+        memcpy(&start, table + IBFT_WORD_OFFSET(w), sizeof start);
+        memcpy(&header, table + start, sizeof header);
+        if (start != 0 && header.id == id)
+            printf(" %u", header.index);
+    }
+}
+
+/* Which NICs and targets a table with extras has. */
+static void print_extras(const uint8_t *table)
+{
+    struct ibft_control control;
+    unsigned words;
+
+    memcpy(&control, table + IBFT_CONTROL_OFFSET, sizeof control);
+    words = ibft_control_words(&control);
+    if (words == IBFT_SLOTS)
+        return;
+    printf("  NICs");
+    print_indexes(table, words, IBFT_ID_NIC);
+    printf(", targets");
+    print_indexes(table, words, IBFT_ID_TARGET);
+    printf("\n");
+}
+
 static void print_report(const struct boot_report *report)
 {
     printf("%s\n", title);
@@ -285,6 +374,8 @@ static void print_report(const struct boot_report *report)
     if (report->table_length != 0)
         printf("  table at 0x%x, %u bytes\n", (unsigned)report->table_address,
                (unsigned)report->table_length);
+    if (report->status == BOOT_READY)
+        print_extras(memory + report->table_address);
     if (report->number != IBFT_ACCEPTED)
         printf("  refused %u %u: %s\n", report->number, (unsigned)report->place,
                ibft_refusal_text(report->number));
@@ -336,14 +427,15 @@ static void expect_report(const struct boot_report *report, const struct boot_ca
 }
 
 /* All memory is as it was, but for the table that was built. */
-static void expect_memory(bool built)
+static void expect_memory(bool built, const struct boot_record *record)
 {
     if (built)
-        memcpy(memory_before + ROOM, memory + ROOM, BUILT_LENGTH);
+        memcpy(memory_before + ROOM, memory + ROOM,
+               record == &boot_depot ? DEPOT_LENGTH : CABINET_LENGTH);
     expect(memcmp(memory, memory_before, MEMORY_SIZE) == 0, "memory outside the table");
 }
 
-static void run_case(const struct boot_case *tried)
+static void run_case(const struct boot_case *tried, const struct boot_record *record)
 {
     struct boot_machine machine = {
         .memory = memory,
@@ -351,6 +443,7 @@ static void run_case(const struct boot_case *tried)
         .memory_address = tried->memory_address,
         .room_address = tried->room_address,
         .room_size = tried->room_size,
+        .record = record,
     };
     size_t used;
 
@@ -363,7 +456,7 @@ static void run_case(const struct boot_case *tried)
     print_report(&machine.report);
     expect(guard_is_whole(), "the guard below the stack");
     expect_report(&machine.report, tried);
-    expect_memory(tried->expected.built);
+    expect_memory(tried->expected.built, record);
 }
 
 /* Writes more bytes than the stack has. */
@@ -395,8 +488,10 @@ int main(int count, char **words)
         return 2;
     }
     samples = words[1];
-    for (size_t i = 0; i < sizeof cases / sizeof cases[0]; i++)
-        run_case(&cases[i]);
+    for (size_t i = 0; i < sizeof cabinet_cases / sizeof cabinet_cases[0]; i++)
+        run_case(&cabinet_cases[i], &boot_cabinet);
+    for (size_t i = 0; i < sizeof depot_cases / sizeof depot_cases[0]; i++)
+        run_case(&depot_cases[i], &boot_depot);
     show_stack();
     printf("all as expected\n");
     return 0;

@@ -22,7 +22,7 @@ mod twins;
 
 use seeded::Seeded;
 use std::time::Instant;
-use table_maker::{common_table, largest_table};
+use table_maker::{common_table, largest_table, largest_table_with_extras, table_with_targets};
 
 const CONTENDERS: [&str; 3] = ["library", "C twin", "Rust twin"];
 
@@ -104,10 +104,52 @@ fn print_times(what: &str, best: [f64; 3], notes: [String; 3]) {
     );
 }
 
-fn measure(what: &str, rounds: usize, calls: usize, call: impl Fn(usize) -> u64) {
-    if answers_agree(what, &call) {
-        let best = best_times(rounds, calls, call);
-        print_times(what, best, [String::new(), String::new(), String::new()]);
+/// Prints the times, and gives the library's; none where the answers differ.
+fn measure(what: &str, rounds: usize, calls: usize, call: impl Fn(usize) -> u64) -> Option<f64> {
+    if !answers_agree(what, &call) {
+        return None;
+    }
+    let best = best_times(rounds, calls, call);
+    print_times(what, best, [String::new(), String::new(), String::new()]);
+    Some(best[0])
+}
+
+/// The check of tables with 2, 4 and 8 targets, and of the largest with extras.
+fn measure_checks_with_extras() {
+    let mut rows = Vec::new();
+    for targets in [2, 4, 8] {
+        let table = table_with_targets(targets);
+        let bytes = table.length();
+        let what = format!("check of a table with {} targets, {} bytes", targets, bytes);
+        if let Some(time) = measure(&what, 1_000, 200, |c| check_by(c, &table.bytes)) {
+            rows.push((targets, bytes, time));
+        }
+    }
+    if rows.len() == 3 {
+        print_growth("check", &rows);
+    }
+    let table = largest_table_with_extras();
+    let what = format!(
+        "check of the largest table with extras, {} bytes",
+        table.length()
+    );
+    measure(&what, 500, 50, |c| check_by(c, &table.bytes));
+}
+
+/// How the cost of a call grows with targets: the library's time for each number beside that for the
+/// first, and beside the bytes.
+pub fn print_growth(what: &str, rows: &[(usize, usize, f64)]) {
+    let (_, first_bytes, first_time) = rows[0];
+    println!("{}: how the library's time grows", what);
+    for (targets, bytes, time) in rows {
+        println!(
+            "  {} targets and NICs, {:>5} bytes: {:>10.1} ns, {:.2} times that for 2, bytes {:.2} times",
+            targets,
+            bytes,
+            time,
+            time / first_time,
+            *bytes as f64 / first_bytes as f64
+        );
     }
 }
 
@@ -156,5 +198,6 @@ fn main() {
         measure(&what, 1_000, 300, |c| check_by(c, &table.bytes));
     }
 
+    measure_checks_with_extras();
     benchmark_build::measure_builds();
 }

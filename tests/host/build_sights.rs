@@ -2,11 +2,12 @@
 //! taken for one that did.
 
 use crate::model_build::Heap;
-use crate::model_layout::ENTRIES;
+use crate::model_layout::{ENTRIES, NIC};
 use crate::model_record::Record;
 
-/// The largest Length: RULES.md, Least Length.
-pub const LARGEST_LENGTH: usize = 3_702;
+/// The largest Length, and the largest without extras: RULES.md, Least Length.
+pub const LARGEST_LENGTH: usize = 13_710;
+const LARGEST_WITHOUT_EXTRAS: usize = 3_702;
 
 /// Things that the records and rooms have to have shown.
 const SIGHTS: &[&str] = &[
@@ -24,7 +25,15 @@ const SIGHTS: &[&str] = &[
     "the room is just enough",
     "one byte too few",
     "more room than Length",
-    "Length 3,702",
+    "Length 3,702 without extras",
+    "Length 13,710",
+    "extra NICs alone",
+    "extra targets alone",
+    "extras and no named structure",
+    "twelve extras and all strings",
+    "an extra's string equals a named one's",
+    "an extra's string is a tail of another's",
+    "an Index of 255",
 ];
 
 #[derive(Default)]
@@ -45,7 +54,10 @@ impl BuildSights {
         self.see_sharing(record);
         self.see("the room is just enough", room_size == length);
         self.see("more room than Length", room_size > length);
-        self.see("Length 3,702", length == LARGEST_LENGTH);
+        let has_extras = !record.extras.is_empty();
+        let is_largest = !has_extras && length == LARGEST_WITHOUT_EXTRAS;
+        self.see("Length 3,702 without extras", is_largest);
+        self.see("Length 13,710", length == LARGEST_LENGTH);
         self.largest = self.largest.max(length);
     }
 
@@ -53,10 +65,25 @@ impl BuildSights {
         let structures = record.structures.iter().flatten().count();
         let strings = record.entries.iter().flatten().count();
         let all = structures == record.structures.len();
-        let all_strings = strings == ENTRIES.len();
+        let all_strings = strings == record.entries.len();
         self.see("nothing present", structures == 0);
         self.see("all structures and all strings", all && all_strings);
         self.see("all structures, a string missing", all && !all_strings);
+        let extras = &record.extras;
+        let nics = extras.iter().filter(|extra| extra.kind == NIC).count();
+        self.see("extra NICs alone", nics > 0 && nics == extras.len());
+        self.see("extra targets alone", nics == 0 && !extras.is_empty());
+        let named_absent = structures == extras.len() && structures > 0;
+        self.see("extras and no named structure", named_absent);
+        let twelve = extras.len() == 12;
+        self.see(
+            "twelve extras and all strings",
+            twelve && all && all_strings,
+        );
+        self.see(
+            "an Index of 255",
+            extras.iter().any(|extra| extra.index == 255),
+        );
     }
 
     fn see_sharing(&mut self, record: &Record) {
@@ -73,6 +100,15 @@ impl BuildSights {
         let is_stored = owner == entry;
         let equals = record.entries[owner].as_deref() == Some(text);
         let is_empty = text.is_empty();
+        let (of_extra, by_extra) = (entry >= ENTRIES.len(), owner >= ENTRIES.len());
+        self.see(
+            "an extra's string equals a named one's",
+            of_extra && !by_extra && equals && !is_empty,
+        );
+        self.see(
+            "an extra's string is a tail of another's",
+            of_extra && by_extra && !is_stored && !equals && !is_empty,
+        );
         self.see("an empty string is stored", is_stored && is_empty);
         self.see("an empty string is a tail", !equals && is_empty);
         self.see("a string equals a lower one", !is_stored && equals);
@@ -98,9 +134,9 @@ impl BuildSights {
     /// Was everything seen, the largest Length too, and none above it?
     pub fn are_enough(&self) -> bool {
         for (sight, times) in SIGHTS.iter().zip(self.times) {
-            println!("  {:<36} {:>10} times", sight, times);
+            println!("  {:<42} {:>10} times", sight, times);
         }
-        println!("  {:<36} {:>10}", "largest Length", self.largest);
+        println!("  {:<42} {:>10}", "largest Length", self.largest);
         let unseen = (0..SIGHTS.len()).find(|sight| self.times[*sight] == 0);
         if let Some(sight) = unseen {
             println!("build: no input shows '{}'", SIGHTS[sight]);

@@ -6,8 +6,10 @@
 //! later gets its reading and its comparison beside these. The environment variables SHOW, TELL and
 //! ENTER name the programs.
 
+mod build_causes;
 mod build_refusals;
 mod build_sights;
+mod causes;
 mod compare_build;
 mod compare_check;
 mod compare_checksum;
@@ -24,6 +26,7 @@ mod field_maker;
 mod good_records;
 mod good_tables;
 mod known_builds;
+mod known_extras;
 mod known_texts;
 mod known_values;
 mod lent_build;
@@ -49,6 +52,7 @@ mod model_text;
 mod record_damage;
 mod record_maker;
 mod record_shapes;
+mod record_shapes_extras;
 mod refusals;
 mod running;
 mod samples;
@@ -56,6 +60,7 @@ mod seeded;
 mod table_damage;
 mod table_maker;
 mod table_shapes;
+mod table_shapes_extras;
 mod tally;
 mod text_damage;
 mod text_maker;

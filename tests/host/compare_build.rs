@@ -11,10 +11,14 @@ use crate::model_build::build;
 use crate::model_check::Refusal;
 use crate::model_layout::*;
 use crate::model_record::*;
+use crate::model_record_range::EXTRAS;
 use crate::record_shapes::{all_agree, BuildInput};
 use crate::tally::Tally;
 
 const LEAST_INPUTS: usize = 200_000;
+
+/// So many of them with ranges that tell of extras.
+const LEAST_WITH_EXTRAS: usize = 200_000;
 
 /// A reading's bytes.
 const OUT_SIZE: usize = 128;
@@ -38,7 +42,7 @@ pub fn in_words(answer: u64) -> String {
 }
 
 fn in_hex(bytes: &[u8]) -> String {
-    let shown = &bytes[..bytes.len().min(5_000)];
+    let shown = &bytes[..bytes.len().min(14_000)];
     shown.iter().map(|byte| format!("{:02x}", byte)).collect()
 }
 
@@ -58,6 +62,7 @@ struct Counts {
     refusals: BuildRefusals,
     sights: BuildSights,
     read_back: usize,
+    with_extras: usize,
 }
 
 // ---- Reading back ----
@@ -70,32 +75,64 @@ fn record_read_by_library(table: &[u8]) -> Option<Record> {
     if header != 0 {
         return None;
     }
+    let extras = extras_read(table);
+    let named = SLOTS.iter().map(|slot| slot.kind);
+    let kinds: Vec<Kind> = named.chain(extras.iter().map(|extra| extra.kind)).collect();
+    let entries = entries_of(&kinds).len();
+    for past in entries..ENTRY_NUMBERS as usize {
+        assert_eq!(entry_read(table, past), None, "entry {} is there", past);
+    }
     Some(Record {
         oem_id: out[..6].to_vec(),
         oem_table_id: out[6..14].to_vec(),
         control_flags: u64::from(out[14]),
-        structures: (0..SLOTS.len()).map(|s| fields_read(table, s)).collect(),
-        entries: (0..ENTRIES.len()).map(|e| entry_read(table, e)).collect(),
+        extras,
+        structures: (0..kinds.len())
+            .map(|s| fields_read(table, &kinds, s))
+            .collect(),
+        entries: (0..entries).map(|e| entry_read(table, e)).collect(),
     })
 }
 
+/// Kind and Index of the structures in the slots from 5 on, as many as there are without a gap. Those
+/// behind are missing.
+fn extras_read(table: &[u8]) -> Vec<Extra> {
+    let (at, size) = (table.as_ptr(), table.len());
+    let mut extras = Vec::new();
+    let mut ended = false;
+    for slot in SLOTS.len() as u8..SLOT_NUMBERS as u8 {
+        let answer = unsafe { library::test_structure(at, size, slot) };
+        let index = unsafe { library::test_structure_index(at, size, slot) };
+        match number(answer) {
+            22 => ended = true,
+            0 if !ended => extras.push(Extra {
+                kind: extra_kind(answer >> 32 & 0xFF).expect("an extra is a NIC or a target"),
+                index: u64::from(index),
+            }),
+            _ => panic!("slot {} of a table that was accepted: {:#x}", slot, answer),
+        }
+    }
+    extras
+}
+
 /// Flags and fields of a slot's structure; none where the library says that it is absent.
-fn fields_read(table: &[u8], slot: usize) -> Option<Vec<u8>> {
+fn fields_read(table: &[u8], kinds: &[Kind], slot: usize) -> Option<Vec<u8>> {
     unsafe extern "C" fn initiator(t: *const u8, size: usize, _: u8, o: *mut u8, n: usize) -> u64 {
         library::test_initiator(t, size, o, n)
     }
-    let readings: [(NumberedReading, u8); 5] = [
-        (initiator, 0),
-        (library::test_nic, 0),
-        (library::test_target, 0),
-        (library::test_nic, 1),
-        (library::test_target, 1),
-    ];
-    let (read, n) = readings[slot];
+    let read: NumberedReading = match kinds[slot] {
+        INITIATOR => initiator,
+        NIC => library::test_nic,
+        _ => library::test_target,
+    };
+    let n = kinds[..slot]
+        .iter()
+        .filter(|kind| **kind == kinds[slot])
+        .count() as u8;
     let mut out = [0; OUT_SIZE];
     let answer = unsafe { read(table.as_ptr(), table.len(), n, out.as_mut_ptr(), OUT_SIZE) };
     match answer {
-        0 => Some(out[..fields(slot).len()].to_vec()),
+        0 => Some(out[..fields(&kinds[slot]).len()].to_vec()),
         22 => None,
         _ => panic!("slot {} of a table that was accepted: {:#x}", slot, answer),
     }
@@ -157,6 +194,7 @@ const REFUSED: usize = 2;
 fn compare_one(input: &mut BuildInput, counts: &mut Counts) -> bool {
     let lent: &mut LentBuild = &mut input.lent;
     let room_size = lent.room_size();
+    counts.with_extras += usize::from(lent.record().len() >= EXTRAS);
     let expected = build(lent.record(), lent.strings(), room_size);
     let answer = lent.built_by(library::ibft_build);
     if answer != packed_build(&expected) {
@@ -188,7 +226,7 @@ fn compare_one(input: &mut BuildInput, counts: &mut Counts) -> bool {
 
 fn count_refusal(input: &BuildInput, refusal: &Refusal, counts: &mut Counts) {
     let wants_room = refusal.number == 21;
-    counts.refusals.count(refusal);
+    counts.refusals.count(input.lent.record(), refusal);
     let column = if wants_room { NO_ROOM } else { REFUSED };
     counts.tally.count(input.shape, column);
     let one_more = input.lent.room_size() + 1;
@@ -202,6 +240,7 @@ pub fn compare() -> bool {
         refusals: BuildRefusals::default(),
         sights: BuildSights::default(),
         read_back: 0,
+        with_extras: 0,
     };
     let agree =
         known_records_agree() && all_agree(|mut input| compare_one(&mut input, &mut counts));
@@ -211,7 +250,9 @@ pub fn compare() -> bool {
     counts.tally.print();
     counts.refusals.print();
     println!("  tables checked and read back: {}", counts.read_back);
-    counts.sights.are_enough()
+    println!("  ranges that tell of extras: {}", counts.with_extras);
+    counts.with_extras >= LEAST_WITH_EXTRAS
+        && counts.sights.are_enough()
         && counts.refusals.are_all_met()
         && counts.tally.is_enough(LEAST_INPUTS)
 }

@@ -1,14 +1,19 @@
 //! `ibft_check` held to the reading of RULES.md in model_check.rs, on tables of many shapes.
 
+use crate::known_extras::known_extras_agree;
 use crate::library;
 use crate::model_answer::{number, packed};
 use crate::model_check::{check, Verdict};
+use crate::model_layout::{extra_words, CONTROL_END};
 use crate::refusals::Refusals;
-use crate::table_maker::{case_5, common_table, largest_table, structures, with_texts, Table};
+use crate::table_maker::*;
 use crate::table_shapes::{all_agree, Input};
 use crate::tally::Tally;
 
 const LEAST_INPUTS: usize = 200_000;
+
+/// So many of them with extra words.
+const LEAST_WITH_WORDS: usize = 200_000;
 
 /// A Length that needs all four bytes of its field.
 const OVER_16_MIB: usize = 0x0100_0042;
@@ -48,8 +53,19 @@ pub fn report(call: &str, input: &Input, answer: &str, expected: &str) {
     }
 }
 
+struct Counts {
+    tally: Tally,
+    refusals: Refusals,
+    with_words: usize,
+}
+
+/// Is there a Control with extra words?
+fn has_words(table: &[u8]) -> bool {
+    table.len() >= CONTROL_END as usize && !extra_words(table).is_empty()
+}
+
 /// One input: true if the library's answer is the reading's and no byte has changed.
-fn compare_one(input: &mut Input, tally: &mut Tally, refusals: &mut Refusals) -> bool {
+fn compare_one(input: &mut Input, counts: &mut Counts) -> bool {
     let verdict = check(input.table.bytes());
     let expected = packed_verdict(&verdict);
     let (table, size) = input.table.lend();
@@ -58,15 +74,18 @@ fn compare_one(input: &mut Input, tally: &mut Tally, refusals: &mut Refusals) ->
         report("check", input, &in_words(answer), &in_words(expected));
         return false;
     }
-    tally.count(input.shape, usize::from(verdict.is_err()));
+    counts
+        .tally
+        .count(input.shape, usize::from(verdict.is_err()));
+    counts.with_words += usize::from(has_words(input.table.bytes()));
     if let Err(refusal) = verdict {
-        refusals.count(input.table.bytes(), &refusal);
+        counts.refusals.count(input.table.bytes(), &refusal);
     }
     true
 }
 
 /// Tables by name, with the Length that RULES.md gives them.
-fn known_tables() -> [(&'static str, usize, Table); 11] {
+fn known_tables() -> [(&'static str, usize, Table); 16] {
     [
         ("case 1, nothing present", 66, structures(&[]).mended()),
         ("case 2, name missing", 146, structures(&[0]).mended()),
@@ -94,6 +113,27 @@ fn known_tables() -> [(&'static str, usize, Table); 11] {
         ),
         ("a common table", 427, common_table()),
         ("the largest table", 3_702, largest_table()),
+        (
+            "two words, both unused",
+            70,
+            Table::with_words(70, 2).mended(),
+        ),
+        (
+            "NIC 2 and Target 2 alone",
+            230,
+            structures_and_extras(&[], 1, 1).mended(),
+        ),
+        (
+            "twelve extras, no strings",
+            1_454,
+            structures_and_extras(&[0, 1, 2, 3, 4], 6, 6).mended(),
+        ),
+        ("a table with 4 targets", 1_240, table_with_targets(4)),
+        (
+            "the largest table with extras",
+            13_710,
+            largest_table_with_extras(),
+        ),
         ("over 16 MiB", OVER_16_MIB, ends_in_a_one(OVER_16_MIB)),
     ]
 }
@@ -125,14 +165,22 @@ fn depot7_and_depot() -> Table {
 }
 
 pub fn compare() -> bool {
-    let mut tally = Tally::new("check", &["accepted", "refused"]);
-    let mut refusals = Refusals::default();
+    let mut counts = Counts {
+        tally: Tally::new("check", &["accepted", "refused"]),
+        refusals: Refusals::default(),
+        with_words: 0,
+    };
     let agree = known_tables_are_accepted()
-        && all_agree(|mut input| compare_one(&mut input, &mut tally, &mut refusals));
+        && known_extras_agree()
+        && all_agree(|mut input| compare_one(&mut input, &mut counts));
     if !agree {
         return false;
     }
-    tally.print();
-    refusals.print("refused");
-    refusals.are_all_met("check") && tally.is_enough(LEAST_INPUTS)
+    counts.tally.print();
+    counts.refusals.print("refused");
+    counts.refusals.print_causes();
+    println!("  tables with extra words: {}", counts.with_words);
+    counts.refusals.are_all_met("check")
+        && counts.with_words >= LEAST_WITH_WORDS
+        && counts.tally.is_enough(LEAST_INPUTS)
 }

@@ -1,20 +1,21 @@
-//! Looks for a table shorter than the built one, by trying: places of the structures, places of
-//! short strings over two letters, and whole tables with every heap. Each search also has to find
-//! the built Length itself, so that one that finds nothing because it looks wrongly is noticed.
+//! Looks for a table shorter than the built one, by trying: places of the structures, named ones and
+//! extras, under Controls with enough words and too many; places of short strings over two letters, and
+//! whole tables with every heap. Each search also has to find the built Length itself, so that one that
+//! finds nothing because it looks wrongly is noticed.
 
 use crate::good_tables::shuffle;
 use crate::library;
-use crate::model_build::BUILT_ORDER;
+use crate::model_build::built_order;
 use crate::model_layout::*;
 use crate::model_record::{record_given, record_read};
-use crate::record_maker::{record_with, Given};
+use crate::record_maker::{record_with_extras, Given, SIX};
 use crate::seeded::Seeded;
-use crate::table_maker::Table;
+use crate::table_maker::{Table, FIRST_EXTRA};
 
 /// The table that the library builds.
 fn built(given: &Given) -> Table {
     let (record, strings) = (&given.record, given.strings());
-    let mut room = vec![0; 4_096];
+    let mut room = vec![0; 16_384];
     let answer = unsafe {
         library::ibft_build(
             record.as_ptr(),
@@ -39,64 +40,191 @@ fn is_accepted(table: &Table) -> bool {
 
 // ---- Places of structures ----
 
-/// Tries every place of the structures that keeps the built order and ends by `end`, in tables
-/// that hold nothing else. Counts the tables, and answers the least Length that is accepted.
-fn least_end(slots: &[usize], end: usize, starts: &mut Vec<usize>, tables: &mut usize) -> usize {
+/// The structures of a record in the built order, each with its Control word, kind and Index, and how many
+/// extra words Control has.
+struct Laid {
+    structures: Vec<(usize, Kind, u8)>,
+    extra_words: usize,
+}
+
+/// Which of the five, and the Index values of the extra NICs and targets.
+struct Choice<'a> {
+    named: Vec<usize>,
+    nics: &'a [u8],
+    targets: &'a [u8],
+}
+
+impl Choice<'_> {
+    fn extras(&self) -> usize {
+        self.nics.len() + self.targets.len()
+    }
+
+    fn record(&self) -> Given {
+        record_with_extras(&self.named, self.nics, self.targets, &[])
+    }
+
+    /// The structures, the words of the extras from the first on or from the last back.
+    fn laid(&self, extra_words: usize, turned: bool) -> Laid {
+        let mut kinds: Vec<Kind> = SLOTS.iter().map(|slot| slot.kind).collect();
+        kinds.extend(vec![NIC; self.nics.len()]);
+        kinds.extend(vec![TARGET; self.targets.len()]);
+        let extras = [self.nics, self.targets].concat();
+        let mut structures = Vec::new();
+        for slot in built_order(&kinds) {
+            match SLOTS.get(slot) {
+                Some(named) if self.named.contains(&slot) => {
+                    structures.push((slot, named.kind, named.index as u8));
+                }
+                Some(_) => {}
+                None => {
+                    let extra = slot - SLOTS.len();
+                    let word = if turned {
+                        extra_words - 1 - extra
+                    } else {
+                        extra
+                    };
+                    structures.push((FIRST_EXTRA + word, kinds[slot], extras[extra]));
+                }
+            }
+        }
+        Laid {
+            structures,
+            extra_words,
+        }
+    }
+}
+
+/// Which places are tried for a structure: every one behind the start of the one before, those from its
+/// last eight bytes on, or those from its end on. The first structure is tried from 72 on, be it below
+/// Control's end or not.
+#[derive(Clone, Copy)]
+enum Tried {
+    Every,
+    NearlyApart,
+    Apart,
+}
+
+impl Tried {
+    /// How far behind the start of a structure of `length` bytes the next is tried first.
+    fn step(self, length: usize) -> usize {
+        let alignment = ALIGNMENT as usize;
+        match self {
+            Tried::Every => alignment,
+            Tried::NearlyApart => length / alignment * alignment,
+            Tried::Apart => (length + alignment - 1) / alignment * alignment,
+        }
+    }
+
+    /// How many bytes structures take at least that are tried so, the last as a whole.
+    fn least_size(self, structures: &[(usize, Kind, u8)]) -> usize {
+        let length = |structure: &(usize, Kind, u8)| structure.1.length as usize;
+        match structures.split_last() {
+            Some((last, others)) => {
+                let before: usize = others.iter().map(|other| self.step(length(other))).sum();
+                before + length(last)
+            }
+            None => 0,
+        }
+    }
+}
+
+/// Tries places of the structures that keep the built order and end by `end`, in tables that hold nothing
+/// else. Counts the tables, and answers the least Length that is accepted.
+fn least_end(
+    laid: &Laid,
+    tried: Tried,
+    end: usize,
+    starts: &mut Vec<usize>,
+    tables: &mut usize,
+) -> usize {
     let mut least = usize::MAX;
-    if starts.len() == slots.len() {
+    if starts.len() == laid.structures.len() {
         *tables += 1;
-        let table = placed(slots, starts).mended();
+        let table = placed(laid, starts).mended();
         return if is_accepted(&table) {
             table.length()
         } else {
             least
         };
     }
-    let length = SLOTS[slots[starts.len()]].kind.length as usize;
-    let mut start = starts
-        .last()
-        .map_or(FIRST_START, |last| *last as u64 + ALIGNMENT) as usize;
-    while start + length <= end {
+    let mut start = FIRST_START as usize;
+    if let Some(last) = starts.last() {
+        start = last + tried.step(laid.structures[starts.len() - 1].1.length as usize);
+    }
+    let size = tried.least_size(&laid.structures[starts.len()..]);
+    while start + size <= end {
         starts.push(start);
-        least = least.min(least_end(slots, end, starts, tables));
+        least = least.min(least_end(laid, tried, end, starts, tables));
         starts.pop();
         start += ALIGNMENT as usize;
     }
     least
 }
 
-/// A table that ends with the last of the structures.
-fn placed(slots: &[usize], starts: &[usize]) -> Table {
-    let places = || slots.iter().zip(starts);
-    let ends = places().map(|(slot, start)| start + SLOTS[*slot].kind.length as usize);
-    let mut table = Table::new(ends.fold(CONTROL_END as usize, usize::max));
-    for (slot, start) in places() {
-        table.put_structure(*slot, *start);
+/// A table that ends with the last of the structures, or with Control.
+fn placed(laid: &Laid, starts: &[usize]) -> Table {
+    let places = || laid.structures.iter().zip(starts);
+    let ends = places().map(|((_, kind, _), start)| start + kind.length as usize);
+    let control_end = CONTROL_END as usize + 2 * laid.extra_words;
+    let mut table = Table::with_words(ends.fold(control_end, usize::max), laid.extra_words);
+    for ((word, kind, index), start) in places() {
+        table.put_extra(*word, kind, *index, *start);
     }
     table
 }
 
-/// Every choice of structures: none of them can end earlier.
+/// Every choice of the five with every number of extras: none of them can end earlier, however many words
+/// Control has and whatever their order.
 fn structures_end_first() -> bool {
-    let mut tables = 0;
-    for choice in 0..1 << SLOTS.len() {
-        let chosen = BUILT_ORDER.iter().filter(|slot| choice >> **slot & 1 == 1);
-        let slots: Vec<usize> = chosen.copied().collect();
-        let length = built(&record_with(&slots, &[])).length();
-        let least = least_end(&slots, length, &mut Vec::new(), &mut tables);
-        if least != length {
-            println!(
-                "least: structures {:?}: built {}, least {}",
-                slots, length, least
-            );
-            return false;
+    let (mut choices, mut tables) = (0, 0);
+    for named in 0..1 << SLOTS.len() {
+        for extras in 0..49 {
+            let slots = (0..SLOTS.len()).filter(|slot| named >> slot & 1 == 1);
+            let choice = Choice {
+                named: slots.collect(),
+                nics: &SIX[..extras % 7],
+                targets: &SIX[..extras / 7],
+            };
+            choices += 1;
+            if !is_least(&choice, &mut tables) {
+                return false;
+            }
         }
     }
     println!(
-        "  structures: 32 choices, {} tables tried, none shorter",
-        tables
+        "  structures: {} choices, {} tables tried, none shorter",
+        choices, tables
     );
     true
+}
+
+/// Are all tables of a choice at least as long as the built one, and one of them just as long?
+fn is_least(choice: &Choice, tables: &mut usize) -> bool {
+    let length = built(&choice.record()).length();
+    let mut least = usize::MAX;
+    for more in [0, 1, 4] {
+        let extra_words = choice.extras() + more;
+        if extra_words > EXTRA_WORDS as usize {
+            continue;
+        }
+        for turned in [false, true] {
+            let laid = choice.laid(extra_words, turned);
+            let tried = match laid.structures.len() {
+                0..=2 => Tried::Every,
+                _ if extra_words == 0 && !turned => Tried::Every,
+                3..=7 => Tried::NearlyApart,
+                _ => Tried::Apart,
+            };
+            least = least.min(least_end(&laid, tried, length, &mut Vec::new(), tables));
+        }
+    }
+    if least != length {
+        println!(
+            "least: structures {:?}, NICs {:?}, targets {:?}: built {}, least {}",
+            choice.named, choice.nics, choice.targets, length, least
+        );
+    }
+    least == length
 }
 
 // ---- Places of strings ----
@@ -139,19 +267,22 @@ fn can_place(texts: &[&Vec<u8>], heap: &mut [Option<u8>], tried: &mut usize) -> 
     false
 }
 
-/// A record with these strings under any owners; an empty one is no host name.
+/// A record with these strings under any owners, named ones and extras; an empty one is no host name.
 fn with_any_owners(seeded: &mut Seeded, texts: &[&Vec<u8>]) -> Given {
-    let mut entries: Vec<usize> = (0..ENTRIES.len()).collect();
+    let nics = &SIX[..seeded.one_of(&[0, 0, 1, 2])];
+    let targets = &SIX[..seeded.one_of(&[0, 0, 1, 2])];
+    let all = record_with_extras(&[], nics, targets, &[]).entries();
+    let mut entries: Vec<usize> = (0..all.len()).collect();
     shuffle(seeded, &mut entries);
     let mut given: Vec<(usize, &[u8])> = Vec::new();
     for text in texts {
-        let may_own = |entry: &usize| !(text.is_empty() && ENTRIES[*entry].is_host_name);
+        let may_own = |entry: &usize| !(text.is_empty() && all[*entry].text.is_host_name);
         let at = entries.iter().position(may_own).unwrap();
         given.push((entries.remove(at), text));
     }
-    let owners = given.iter().map(|(entry, _)| ENTRIES[*entry].slot);
-    let slots: Vec<usize> = owners.collect();
-    record_with(&slots, &given)
+    let owners = given.iter().map(|(entry, _)| all[*entry].slot);
+    let slots: Vec<usize> = owners.filter(|slot| *slot < SLOTS.len()).collect();
+    record_with_extras(&slots, nics, targets, &given)
 }
 
 /// Every choice of up to four strings, in every order: no heap is shorter than the built one.
@@ -273,12 +404,13 @@ fn few_bytes(seeded: &mut Seeded, count: usize, most: usize) -> (Given, Table) {
 /// No table with a shorter heap is accepted and reads as the record; some of the built Length are.
 fn whole_tables_are_least() -> bool {
     let mut seeded = Seeded::new(0x1EA57);
-    let (mut records, mut tables, mut accepted) = (0, 0, 0);
+    let (mut records, mut tables, mut accepted, mut with_extras) = (0, 0, 0, 0);
     for (count, most, times) in [(1, 4, 6), (2, 6, 24), (2, 7, 6), (3, 5, 16)] {
         for _ in 0..times {
             let (given, table) = few_bytes(&mut seeded, count, most);
             let built_size = table.length() - heap_start(&table.bytes) as usize;
             records += 1;
+            with_extras += usize::from(!given.extra_slots().is_empty());
             for size in 0..=built_size {
                 let (found, every) = try_every_heap(&given, &table, size);
                 tables += every.tables;
@@ -294,10 +426,10 @@ fn whole_tables_are_least() -> bool {
         }
     }
     println!(
-        "  whole tables: {} records, {} tables tried, {} accepted, none shorter reads as its record",
-        records, tables, accepted
+        "  whole tables: {} records, {} with extras, {} tables tried, {} accepted, none shorter reads as its record",
+        records, with_extras, tables, accepted
     );
-    true
+    with_extras > 0
 }
 
 pub fn compare() -> bool {

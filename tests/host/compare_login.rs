@@ -8,33 +8,46 @@ use crate::tally::Tally;
 
 const LEAST_INPUTS: usize = 200_000;
 
-const ANSWERS: &[&str] = &["refused", "none", "0", "1", "0 1", "1 0"];
+/// Counts by how many targets there are to log in to, and whether the order is by Index.
+const ANSWERS: &[&str] = &[
+    "refused", "none", "1", "2", "2 turned", "3", "3 turned", "4 to 7", "turned", "8", "8 turned",
+];
 
 /// The column of the counts for an order.
 fn column(order: &[u64]) -> usize {
-    match order {
-        [] => 1,
-        [0] => 2,
-        [_] => 3,
-        [0, _] => 4,
-        _ => 5,
-    }
+    let turned = order.windows(2).any(|pair| pair[0] > pair[1]);
+    let column = match order.len() {
+        0 => 1,
+        1 => 2,
+        2 => 3,
+        3 => 5,
+        8 => 9,
+        _ => 7,
+    };
+    column + usize::from(turned)
 }
 
-fn compare_one(input: &mut Input, tally: &mut Tally) -> bool {
+fn compare_one(input: &mut Input, tally: &mut Tally, with_255: &mut usize) -> bool {
     let expected = login_order(input.table.bytes());
     let (refusal, order) = match &expected {
         Ok(order) => (0, order.as_slice()),
         Err(refusal) => (packed_verdict(&Err(*refusal)), &[][..]),
     };
-    let [first, second] = places(order);
-    let packed = refusal | (order.len() as u64) << 32 | first << 40 | second << 48;
+    let places = places(order);
+    let packed = refusal | (order.len() as u64) << 32 | places[0] << 40 | places[1] << 48;
+    let all_places = places.iter().rev().fold(0, |all, place| all << 8 | place);
     let (table, size) = input.table.lend();
     let answer = unsafe { library::test_login_order(table, size) };
-    if answer != packed || !input.table.is_unchanged() {
-        let (answer, packed) = (format!("{:#x}", answer), format!("{:#x}", packed));
-        report("login order", input, &answer, &packed);
+    let places_given = unsafe { library::test_login_places(table, size) };
+    let agrees = answer == packed && places_given == all_places;
+    if !agrees || !input.table.is_unchanged() {
+        let given = format!("{:#x}, places {:#018x}", answer, places_given);
+        let expected = format!("{:#x}, places {:#018x}", packed, all_places);
+        report("login order", input, &given, &expected);
         return false;
+    }
+    if order.contains(&255) {
+        *with_255 += 1;
     }
     let answer = expected.map_or(0, |order| column(&order));
     tally.count(input.shape, answer);
@@ -43,9 +56,11 @@ fn compare_one(input: &mut Input, tally: &mut Tally) -> bool {
 
 pub fn compare() -> bool {
     let mut tally = Tally::new("login order", ANSWERS);
-    if !all_agree(|mut input| compare_one(&mut input, &mut tally)) {
+    let mut with_255 = 0;
+    if !all_agree(|mut input| compare_one(&mut input, &mut tally, &mut with_255)) {
         return false;
     }
     tally.print();
-    tally.is_enough(LEAST_INPUTS)
+    println!("  a used place holds 255: {} times", with_255);
+    with_255 > 0 && tally.is_enough(LEAST_INPUTS)
 }

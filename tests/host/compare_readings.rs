@@ -2,11 +2,11 @@
 //! slot and every entry of every table, and numbers past them.
 
 use crate::compare_check::{packed_verdict, report};
-use crate::good_tables::table_with_structures;
-use crate::library::{self, NumberedReading, Reading};
+use crate::good_tables::{table_with_extras, table_with_structures};
+use crate::library::{self, Index, NumberedReading, Reading};
 use crate::model_answer::number;
 use crate::model_check::Refusal;
-use crate::model_layout::{FLAGS_AT, SLOTS};
+use crate::model_layout::*;
 use crate::model_readings::{self as model, *};
 use crate::seeded::Seeded;
 use crate::table_maker::{structures, Table};
@@ -14,6 +14,9 @@ use crate::table_shapes::{all_agree, Input};
 use crate::tally::Tally;
 
 const LEAST_INPUTS: usize = 200_000;
+
+/// So many accepted tables with extra structures, whose every number is read.
+const LEAST_WITH_EXTRAS: usize = 100_000;
 
 /// Bytes lent for what a reading gives, and guards on both sides of them.
 const OUT_SIZE: usize = 128;
@@ -114,20 +117,29 @@ impl LaidOut for Target {
 /// Flags and fields, as they are read one by one, are the structure's bytes from the flags on, each
 /// once and in order.
 fn fields_are_the_bytes() -> bool {
-    (0..300).all(|seed| {
-        let table = table_with_structures(&mut Seeded::new(seed));
+    (0..600).all(|seed| {
+        let table = match seed % 2 {
+            0 => table_with_structures(&mut Seeded::new(seed)),
+            _ => table_with_extras(&mut Seeded::new(seed)),
+        };
         let bytes = table.lent_bytes();
-        let read = [
-            model::initiator(bytes).map(|fields| fields.laid_out()),
-            model::nic(bytes, 0).map(|fields| fields.laid_out()),
-            model::target(bytes, 0).map(|fields| fields.laid_out()),
-            model::nic(bytes, 1).map(|fields| fields.laid_out()),
-            model::target(bytes, 1).map(|fields| fields.laid_out()),
-        ];
-        table.present_slots().into_iter().all(|slot| {
-            let start = table.start(slot);
-            let end = start + SLOTS[slot].kind.length as usize;
-            read[slot].as_deref() == Ok(&bytes[start + FLAGS_AT as usize..end])
+        let accepted = model::accepted(bytes).ok().unwrap();
+        let (mut nics, mut targets) = (0.., 0..);
+        accepted.slots.iter().all(|found| {
+            let read = match found.kind {
+                INITIATOR => accepted.initiator().map(|fields| fields.laid_out()),
+                NIC => accepted.nic(nics.next().unwrap()).map(|f| f.laid_out()),
+                _ => accepted
+                    .target(targets.next().unwrap())
+                    .map(|f| f.laid_out()),
+            };
+            match found.start {
+                None => read.is_err(),
+                Some(start) => {
+                    let end = start + found.kind.length;
+                    read.as_deref() == Ok(&bytes[(start + FLAGS_AT) as usize..end as usize])
+                }
+            }
         })
     })
 }
@@ -138,6 +150,7 @@ fn fields_are_the_bytes() -> bool {
 struct Counts {
     tally: Tally,
     tables: usize,
+    with_extras: usize,
 }
 
 impl Counts {
@@ -174,19 +187,45 @@ fn same(call: &str, n: u8, input: &Input, answer: u64, expected: u64) -> bool {
     answer == expected
 }
 
-fn compare_structure(input: &mut Input, slot: u8, counts: &mut Counts) -> bool {
-    let expected = model::structure(input.table.bytes(), u64::from(slot));
-    let (table, size) = input.table.lend();
-    let answer = unsafe { library::test_structure(table, size, slot) };
-    counts.count("structure", answer);
-    let refusal = packed_result(&expected);
-    let Structure { id, start, flags } = expected.unwrap_or_default();
-    let expected = refusal | id << 32 | start << 40 | flags << 56;
-    same("structure", slot, input, answer, expected)
+/// What a reading of the accepted table gives; the check's refusal for any other.
+fn read<T>(
+    table: &Result<Accepted<'_>, Refusal>,
+    reading: impl Fn(&Accepted<'_>) -> Result<T, Refusal>,
+) -> Result<T, Refusal> {
+    match table {
+        Ok(accepted) => reading(accepted),
+        Err(refusal) => Err(*refusal),
+    }
 }
 
-fn compare_entry(input: &mut Input, entry: u8, counts: &mut Counts) -> bool {
-    let expected = model::entry(input.table.bytes(), u64::from(entry));
+fn compare_structure(
+    input: &mut Input,
+    slot: u8,
+    expected: Result<Structure, Refusal>,
+    counts: &mut Counts,
+) -> bool {
+    let (table, size) = input.table.lend();
+    let answer = unsafe { library::test_structure(table, size, slot) };
+    let index_given = unsafe { library::test_structure_index(table, size, slot) };
+    counts.count("structure", answer);
+    let refusal = packed_result(&expected);
+    let Structure {
+        id,
+        index,
+        start,
+        flags,
+    } = expected.unwrap_or_default();
+    let expected = refusal | id << 32 | start << 40 | flags << 56;
+    same("structure", slot, input, answer, expected)
+        && same("structure's Index", slot, input, index_given.into(), index)
+}
+
+fn compare_entry(
+    input: &mut Input,
+    entry: u8,
+    expected: Result<EntryWords, Refusal>,
+    counts: &mut Counts,
+) -> bool {
     let (table, size) = input.table.lend();
     let answer = unsafe { library::test_entry(table, size, entry) };
     let place_given = unsafe { library::test_entry_place(table, size, entry) };
@@ -233,31 +272,48 @@ fn compare_fields<T: LaidOut>(
     false
 }
 
-/// The document's reading and the library's.
-type Plain<T> = (fn(&[u8]) -> Result<T, Refusal>, Reading);
-type Numbered<T> = (fn(&[u8], u64) -> Result<T, Refusal>, NumberedReading);
-
 fn compare_plain<T: LaidOut>(
     call: &'static str,
     input: &mut Input,
-    (model, library): Plain<T>,
+    expected: Result<T, Refusal>,
+    library: Reading,
     counts: &mut Counts,
 ) -> bool {
-    let expected = model(input.table.bytes());
     let read = |table, size, out, out_size| unsafe { library(table, size, out, out_size) };
     compare_fields(call, input, expected, read, counts)
 }
 
-fn compare_numbered<T: LaidOut>(
+/// A reading by number, and the Index that it answers beside the fields.
+fn compare_numbered<T: LaidOut + HasIndex>(
     call: &'static str,
     n: u8,
     input: &mut Input,
-    (model, library): Numbered<T>,
+    expected: Result<T, Refusal>,
+    (library, library_index): (NumberedReading, Index),
     counts: &mut Counts,
 ) -> bool {
-    let expected = model(input.table.bytes(), u64::from(n));
+    let index = expected.as_ref().map_or(0, |fields| fields.index());
     let read = |table, size, out, out_size| unsafe { library(table, size, n, out, out_size) };
-    compare_fields(call, input, expected, read, counts)
+    let (table, size) = input.table.lend();
+    let index_given = unsafe { library_index(table, size, n) };
+    same(call, n, input, index_given.into(), index)
+        && compare_fields(call, input, expected, read, counts)
+}
+
+trait HasIndex {
+    fn index(&self) -> u64;
+}
+
+impl HasIndex for Nic {
+    fn index(&self) -> u64 {
+        self.index
+    }
+}
+
+impl HasIndex for Target {
+    fn index(&self) -> u64 {
+        self.index
+    }
 }
 
 /// A number past the last: just past it, at the end, or one that is small if it wraps.
@@ -266,14 +322,34 @@ fn past(seeded: &mut Seeded, count: usize) -> u8 {
     seeded.one_of(&[count, any, 127, 128, 129, 255]) as u8
 }
 
+/// The numbers that are asked for: all up to `count` and one past it where the table is accepted; of a
+/// table that is refused, where they all answer the same, the first few and some others.
+fn numbers(seeded: &mut Seeded, is_accepted: bool, few: usize, count: usize) -> Vec<u8> {
+    let asked = if is_accepted { count } else { few };
+    let any = seeded.between(0, count - 1) as u8;
+    let mut numbers: Vec<u8> = (0..asked as u8).collect();
+    numbers.extend([any, past(seeded, count)]);
+    numbers
+}
+
 /// Every reading of one table, and the same with a number that is too high.
 fn compare_one(input: &mut Input, counts: &mut Counts) -> bool {
     counts.tables += 1;
-    let mut slots = (0..5).chain([past(&mut input.seeded, 5)]);
-    let mut entries = (0..13).chain([past(&mut input.seeded, 13)]);
-    let agrees = compare_kinds(input, counts)
-        && slots.all(|slot| compare_structure(input, slot, counts))
-        && entries.all(|entry| compare_entry(input, entry, counts));
+    let bytes = input.table.bytes().to_vec();
+    let table = model::accepted(&bytes);
+    counts.with_extras += usize::from(matches!(&table, Ok(t) if t.slots.len() > SLOTS.len()));
+    let is_accepted = table.is_ok();
+    let slots = numbers(&mut input.seeded, is_accepted, 2, SLOT_NUMBERS as usize);
+    let entries = numbers(&mut input.seeded, is_accepted, 2, ENTRY_NUMBERS as usize);
+    let agrees = compare_kinds(input, &table, counts)
+        && slots.iter().all(|slot| {
+            let expected = read(&table, |t| t.structure(u64::from(*slot)));
+            compare_structure(input, *slot, expected, counts)
+        })
+        && entries.iter().all(|entry| {
+            let expected = read(&table, |t| t.entry(u64::from(*entry)));
+            compare_entry(input, *entry, expected, counts)
+        });
     if agrees && !input.table.is_unchanged() {
         report("readings", input, "-", "-");
         return false;
@@ -282,20 +358,33 @@ fn compare_one(input: &mut Input, counts: &mut Counts) -> bool {
 }
 
 /// The readings that give all fields: header, initiator, NIC and target.
-fn compare_kinds(input: &mut Input, counts: &mut Counts) -> bool {
-    let header: Plain<Header> = (model::header, library::test_header);
-    let initiator: Plain<Initiator> = (model::initiator, library::test_initiator);
-    let nic: Numbered<Nic> = (model::nic, library::test_nic);
-    let target: Numbered<Target> = (model::target, library::test_target);
-    let numbers = [0, 1, past(&mut input.seeded, 2)];
-    compare_plain("header", input, header, counts)
-        && compare_plain("initiator", input, initiator, counts)
-        && numbers
-            .iter()
-            .all(|n| compare_numbered("NIC", *n, input, nic, counts))
-        && numbers
-            .iter()
-            .all(|n| compare_numbered("target", *n, input, target, counts))
+fn compare_kinds(
+    input: &mut Input,
+    table: &Result<Accepted<'_>, Refusal>,
+    counts: &mut Counts,
+) -> bool {
+    let nic: (NumberedReading, Index) = (library::test_nic, library::test_nic_index);
+    let target: (NumberedReading, Index) = (library::test_target, library::test_target_index);
+    let count = NUMBERS_OF_A_KIND as usize;
+    let numbers = numbers(&mut input.seeded, table.is_ok(), 1, count);
+    let header = read(table, |t| t.header());
+    let initiator = read(table, |t| t.initiator());
+    compare_plain("header", input, header, library::test_header, counts)
+        && compare_plain(
+            "initiator",
+            input,
+            initiator,
+            library::test_initiator,
+            counts,
+        )
+        && numbers.iter().all(|n| {
+            let expected = read(table, |t| t.nic(u64::from(*n)));
+            compare_numbered("NIC", *n, input, expected, nic, counts)
+        })
+        && numbers.iter().all(|n| {
+            let expected = read(table, |t| t.target(u64::from(*n)));
+            compare_numbered("target", *n, input, expected, target, counts)
+        })
 }
 
 // ---- Addresses and the PCI word ----
@@ -382,6 +471,7 @@ pub fn compare() -> bool {
     let mut counts = Counts {
         tally: Tally::new("readings by call", ANSWERS),
         tables: 0,
+        with_extras: 0,
     };
     assert!(fields_are_the_bytes());
     let agree = compare_addresses()
@@ -392,8 +482,13 @@ pub fn compare() -> bool {
         return false;
     }
     counts.tally.print();
-    println!("readings: {} tables read", counts.tables);
-    counts.tables >= LEAST_INPUTS && each_answer_is_met(&counts.tally)
+    println!(
+        "readings: {} tables read, {} of them accepted with extras",
+        counts.tables, counts.with_extras
+    );
+    counts.tables >= LEAST_INPUTS
+        && counts.with_extras >= LEAST_WITH_EXTRAS
+        && each_answer_is_met(&counts.tally)
 }
 
 /// A call that takes a number can refuse in every way; the initiator may be missing.

@@ -2,11 +2,12 @@
 //! input is one run of it.
 
 use crate::model_check::check;
+use crate::model_layout::{NIC, TARGET};
 use crate::model_show::{show, INPUT_LIMIT};
 use crate::refusals::Refusals;
 use crate::running::{fed, program, run, Fed};
 use crate::samples::SAMPLES;
-use crate::table_maker::{case_5, structures, with_texts, Table};
+use crate::table_maker::*;
 use crate::table_shapes::some_of_each;
 use crate::tally::Tally;
 use std::ffi::OsString;
@@ -82,6 +83,26 @@ fn example_holds() -> bool {
     holds
 }
 
+/// The names of extras, letter by letter: NIC 5, Target 9 and Target 255 of a Control of 24 bytes, with a
+/// string of each.
+fn extras_are_named() -> bool {
+    let mut table = Table::with_words(286, 3);
+    table.put_extra(5, &TARGET, 255, 232);
+    table.put_extra(6, &NIC, 5, 72);
+    table.put_extra(7, &TARGET, 9, 176);
+    table.set_flags(5, 1);
+    table.append_text(13, b"a.");
+    table.append_text(14, b"iqn.9");
+    table.append_text(20, b"login");
+    let shown = show(&table.mended().bytes);
+    let example = "table 301\ncontrol multi\nnic5 72 0\ntarget9 176 0\ntarget255 232 1\n\
+                   entry 13 286 2\nentry 14 289 5\nentry 20 295 5\norder 255\n";
+    if shown != example {
+        println!("show: the reading does not name extras:\n{}", shown);
+    }
+    shown == example
+}
+
 fn samples() -> Vec<Fed> {
     let mut inputs = Vec::new();
     for sample in &SAMPLES {
@@ -123,7 +144,7 @@ fn about_the_limit() -> Vec<Fed> {
     ] {
         let table = table_of_length(length);
         for more in [0, 1, 5_000, 300_000] {
-            inputs.push(fed("about 4,096 bytes", with_rest(&table, more)));
+            inputs.push(fed("about 16,384 bytes", with_rest(&table, more)));
         }
     }
     for size in [0, 1, 3, 4, 47, 48, 49, 65, 66] {
@@ -169,6 +190,11 @@ fn told_apart() -> Vec<Fed> {
         with_texts(&[0], &[(0, &[b'n'; 224])]),
         structures(&[0, 1, 2, 3, 4]),
     ];
+    tables.push(structures_and_extras(&[], 1, 1));
+    tables.push(structures_and_extras(&[0, 1, 2, 3, 4], 6, 6));
+    tables.push(full_table_with_extras());
+    tables.push(largest_table_with_extras());
+    tables.push(Table::with_words(90, 12));
     for n in 0..32 {
         let mut table = structures(&[2, 4]);
         table.set_control_flags(n >> 4);
@@ -192,7 +218,7 @@ pub fn compare() -> bool {
         Some(program) => program,
         None => return false,
     };
-    if !stored_outputs_hold() || !example_holds() {
+    if !stored_outputs_hold() || !example_holds() || !extras_are_named() {
         return false;
     }
     let inputs = [
@@ -216,7 +242,8 @@ pub fn compare() -> bool {
     let (tally, refusals) = counts;
     tally.print();
     refusals.print("refused");
-    let unmet: Vec<u64> = (3..=19).filter(|n| !refusals.is_met(*n)).collect();
+    let numbers = (3..=19).chain([33, 34]);
+    let unmet: Vec<u64> = numbers.filter(|n| !refusals.is_met(*n)).collect();
     if !unmet.is_empty() {
         println!("show: no input has the refusals {:?}", unmet);
         return false;

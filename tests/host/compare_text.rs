@@ -5,9 +5,8 @@ use crate::known_texts::known_texts_agree;
 use crate::known_values::known_values_agree;
 use crate::model_build::table_of;
 use crate::model_check::Refusal;
-use crate::model_enter_tell::{enter, refused_line, tell, Entered};
+use crate::model_enter_tell::{enter, has_extras, refused_line, tell, Entered, INPUT_LIMIT};
 use crate::model_record::{record_read, Record};
-use crate::model_show::INPUT_LIMIT;
 use crate::model_text::{record_of, text_of};
 use crate::running::{fed, program, run, Fed};
 use crate::samples::SAMPLES;
@@ -245,6 +244,7 @@ pub fn compare() -> bool {
     };
     let agree = all_tables()
         .iter()
+        .filter(|input| !has_extras(&input.bytes))
         .all(|input| compare_table(&programs, input, &mut counts))
         && all_texts()
             .iter()

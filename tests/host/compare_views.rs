@@ -3,11 +3,11 @@
 //! seen by a change of one byte of the table, which shows in the view of the stretch that has it, and in no other.
 
 use crate::compare_check::report;
-use crate::good_tables::good_table;
+use crate::good_tables::{good_table, good_table_with_extras};
 use crate::library::{self, View};
 use crate::model_check::{check, Refusal};
-use crate::model_layout::{ENTRIES, SLOTS};
-use crate::model_readings as model;
+use crate::model_layout::{ENTRY_NUMBERS, SLOT_NUMBERS};
+use crate::model_readings::{self as model, Accepted};
 use crate::seeded::Seeded;
 use crate::table_maker::{with_texts, Table};
 use crate::table_shapes::{all_agree, Input};
@@ -28,24 +28,29 @@ fn viewed(call: View, table: *const u8, size: usize, n: u8, lent: usize) -> Opti
     untouched.then(|| (answer, out[GUARD..end].to_vec()))
 }
 
-/// What the model shows of a structure or an entry: a stretch of the table, none where the reading is refused.
-fn structure_shown(table: &[u8], slot: u8) -> Result<&[u8], Refusal> {
-    let read = model::structure(table, u64::from(slot))?;
-    Ok(&table[read.start as usize..])
+/// A table that was accepted, or the check's refusal.
+type Checked<'a> = Result<Accepted<'a>, Refusal>;
+
+/// What is shown: a stretch of the table, none where the reading is refused.
+type Shown<'a> = Result<&'a [u8], Refusal>;
+
+fn structure_shown<'a>(bytes: &'a [u8], table: &Checked, slot: u8) -> Shown<'a> {
+    let table = table.as_ref().map_err(|refusal| *refusal)?;
+    let read = table.structure(u64::from(slot))?;
+    Ok(&bytes[read.start as usize..])
 }
 
-fn entry_shown(table: &[u8], entry: u8) -> Result<&[u8], Refusal> {
-    let words = model::entry(table, u64::from(entry))?;
-    Ok(&table[words.offset as usize..(words.offset + words.length) as usize])
+fn entry_shown<'a>(bytes: &'a [u8], table: &Checked, entry: u8) -> Shown<'a> {
+    let table = table.as_ref().map_err(|refusal| *refusal)?;
+    let words = table.entry(u64::from(entry))?;
+    Ok(&bytes[words.offset as usize..(words.offset + words.length) as usize])
 }
-
-type Shown = fn(&[u8], u8) -> Result<&[u8], Refusal>;
 
 /// One view of one table, copied into so many bytes.
-fn compare_view(name: &str, input: &mut Input, (shown, call): (Shown, View), n: u8, lent: usize) -> bool {
+fn compare_view(name: &str, input: &mut Input, stretch: Shown, call: View, n: u8, lent: usize) -> bool {
     let (table, size) = input.table.lend();
     let given = viewed(call, table, size, n, lent);
-    let stretch = shown(input.table.bytes(), n).unwrap_or_default();
+    let stretch = stretch.unwrap_or_default();
     let expected = (stretch.len(), stretch[..stretch.len().min(lent)].to_vec());
     if given.as_ref() != Some(&expected) {
         let name = format!("{} {}", name, n);
@@ -55,16 +60,29 @@ fn compare_view(name: &str, input: &mut Input, (shown, call): (Shown, View), n: 
     true
 }
 
+/// Every number where the table is accepted, else two; and one that is too high.
+fn numbers(seeded: &mut Seeded, table: &Checked, count: u64) -> Vec<u8> {
+    let count = count as usize;
+    let asked = if table.is_ok() { 0..count } else { 1..3 };
+    let past = seeded.between(count, 255);
+    asked.chain([past]).map(|n| n as u8).collect()
+}
+
 /// Every view of a table, and one of a number that is too high.
 fn compare_one(input: &mut Input, shown: &mut usize) -> bool {
     let lent = input.seeded.one_of(&[OUT_SIZE, OUT_SIZE, 8, 0]);
-    let past = input.seeded.between(13, 255) as u8;
-    let structures = (0..SLOTS.len() as u8).chain([past]).all(|slot| {
-        compare_view("structure", input, (structure_shown, library::test_structure_view), slot, lent)
+    let bytes = input.table.bytes().to_vec();
+    let table = model::accepted(&bytes);
+    let slots = numbers(&mut input.seeded, &table, SLOT_NUMBERS);
+    let entries = numbers(&mut input.seeded, &table, ENTRY_NUMBERS);
+    let structures = slots.into_iter().all(|slot| {
+        let stretch = structure_shown(&bytes, &table, slot);
+        compare_view("structure", input, stretch, library::test_structure_view, slot, lent)
     });
-    let entries = (0..ENTRIES.len() as u8).chain([past]).all(|entry| {
-        *shown += usize::from(entry_shown(input.table.bytes(), entry).is_ok());
-        compare_view("entry", input, (entry_shown, library::test_entry_view), entry, lent)
+    let entries = entries.into_iter().all(|entry| {
+        let stretch = entry_shown(&bytes, &table, entry);
+        *shown += usize::from(stretch.is_ok());
+        compare_view("entry", input, stretch, library::test_entry_view, entry, lent)
     });
     structures && entries && input.table.is_unchanged()
 }
@@ -97,8 +115,9 @@ fn equal_strings_keep_apart() -> bool {
 /// makes a host name none, or cuts another string, is refused by the check and left out.)
 fn changes_show(changes: &mut usize) -> bool {
     (0..400).all(|seed| {
-        let table = good_table(&mut Seeded::new(seed));
-        (0..ENTRIES.len()).all(|entry| {
+        let make = [good_table, good_table_with_extras][seed as usize % 2];
+        let table = make(&mut Seeded::new(seed));
+        (0..table.entries().len()).all(|entry| {
             let Ok(words) = model::entry(table.lent_bytes(), entry as u64) else {
                 return true;
             };
@@ -113,7 +132,9 @@ fn changes_show(changes: &mut usize) -> bool {
                 }
                 *changes += 1;
                 let view = entry_viewed(&table, entry);
-                view.get(k) == Some(&byte) && view == entry_shown(table.lent_bytes(), entry as u8).ok().unwrap()
+                let accepted = model::accepted(table.lent_bytes());
+                let shown = entry_shown(table.lent_bytes(), &accepted, entry as u8);
+                view.get(k) == Some(&byte) && Ok(view.as_slice()) == shown
             })
         })
     })

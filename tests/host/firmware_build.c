@@ -1,7 +1,7 @@
 /*
  * The build as firmware calls it: a record is filled in, built into as many
- * bytes as it takes and into one less, checked, and read back; then refusals are
- * met, each with its place.
+ * bytes as it takes and into one less, checked, and read back; so is one with
+ * extras; then refusals are met, each with its place.
  */
 #include <bootfw.h>
 
@@ -33,6 +33,42 @@ static uint32_t build_ibft(const char *name, const char *reverse_name, uint8_t *
     record.target0.reverse_chap_name.length = (uint16_t)reverse_size;
     record.target0.reverse_chap_name.offset = (uint16_t)size;
     answer = ibft_build((const uint8_t *)&record, sizeof record, strings, size + reverse_size,
+                        room, room_size);
+    if (ibft_answer_number(answer) != IBFT_ACCEPTED)
+        printf("iBFT not built: refused %u %u: %s\n", (unsigned)ibft_answer_number(answer),
+               (unsigned)ibft_answer_place(answer),
+               ibft_refusal_text(ibft_answer_number(answer)));
+    return ibft_answer_length(answer);
+}
+/* end of example */
+
+/* example: docs/C-INTERFACE.md shows this function */
+/* Builds the table of NIC 5 and of Target 9, which has a name; its Length, or 0. */
+static uint32_t build_extras(const char *name, uint8_t *room, size_t room_size)
+{
+    struct {
+        struct ibft_expanded_record start;
+        struct ibft_extra_nic nics[1];
+        struct ibft_extra_target targets[1];
+    } record = { 0 };
+    struct ibft_nic *nic = &record.nics[0].nic;
+    struct ibft_target *target = &record.targets[0].target;
+    size_t size = strlen(name);
+    uint64_t answer;
+
+    if (size > IBFT_LONGEST_NAME)
+        return 0;
+    record.start.extra_nics = 1;
+    nic->header.index = 5;
+    nic->header.flags = IBFT_NIC_VALID;
+    record.start.extra_targets = 1;
+    target->header.index = 9;
+    target->header.flags = IBFT_TARGET_VALID;
+    target->nic_association = 5;
+    record.targets[0].string_present[IBFT_TARGET_STRING_NAME] = IBFT_PRESENT;
+    target->name.length = (uint16_t)size;
+    target->name.offset = 0;
+    answer = ibft_build((const uint8_t *)&record, sizeof record, (const uint8_t *)name, size,
                         room, room_size);
     if (ibft_answer_number(answer) != IBFT_ACCEPTED)
         printf("iBFT not built: refused %u %u: %s\n", (unsigned)ibft_answer_number(answer),
@@ -116,6 +152,30 @@ static void reads_back(void)
     expect(strcmp((char *)room + target.chap_name.offset, "depot7") == 0, "the CHAP name");
     expect(strcmp((char *)room + target.reverse_chap_name.offset, "7") == 0, "the reverse name");
     expect(target.name.offset == 0 && target.name.length == 0, "the name is missing");
+}
+
+/* Control takes 22 bytes and ends at 70, so NIC 5 starts at 72 and Target 9 at 176;
+ * the name stands at 230. */
+static void builds_extras(void)
+{
+    enum { NIC = 72, TARGET_9 = 176, NAME = 230, LENGTH = NAME + sizeof "iqn.a" };
+    static const uint8_t control[] = { 1, 1, 22, 0, 0, 0, 0, 0, 0, 0, 0, 0, 0, 0, 0, 0, 0, 0,
+                                       NIC, 0, TARGET_9, 0, 0, 0 };
+    static const uint8_t nic[] = { 3, 1, 102, 0, 5, IBFT_NIC_VALID };
+    static const uint8_t target[] = { 4, 1, 54, 0, 9, IBFT_TARGET_VALID };
+    static const uint8_t name[] = { 5, 0, NAME, 0 };
+    static uint8_t wide[LENGTH];
+
+    expect(build_extras("iqn.a", wide, LENGTH - 1) == 0, "235 bytes are too few");
+    expect(build_extras("iqn.a", wide, LENGTH) == LENGTH, "the Length is 236");
+    expect(memcmp(wide + 48, control, sizeof control) == 0, "Control and its extra words");
+    expect(memcmp(wide + NIC, nic, sizeof nic) == 0, "NIC 5");
+    expect(memcmp(wide + TARGET_9, target, sizeof target) == 0, "Target 9");
+    expect(wide[TARGET_9 + 33] == 5, "Target 9 is reached by NIC 5");
+    expect(memcmp(wide + TARGET_9 + 34, name, sizeof name) == 0, "the name's words");
+    expect(memcmp(wide + NAME, "iqn.a", sizeof "iqn.a") == 0, "the name");
+    expect(ibft_check(wide, LENGTH) == 0, "the check accepts it");
+    printf("firmware_build: NIC 5 and Target 9 built into %u bytes\n", (unsigned)LENGTH);
 }
 
 static void expect_refused(const char *what, const struct ibft_record *record, size_t record_size,
@@ -203,6 +263,7 @@ int main(void)
     keeps_the_rest_of_the_room();
     wants_133_bytes();
     reads_back();
+    builds_extras();
     refuses_contents();
     refuses_strings();
     passes_by_what_is_no_part();

@@ -24,11 +24,32 @@ static bool accept_ibft(const uint8_t *table, size_t table_size)
 }
 /* end of example */
 
+/* example: docs/C-INTERFACE.md shows this function */
+/* Where the structure of this kind and Index starts in an accepted table; 0 if it has none. */
+static uint16_t find_structure(const uint8_t *table, enum ibft_structure_id id, uint8_t index)
+{
+    struct ibft_control control;
+
+    memcpy(&control, table + IBFT_CONTROL_OFFSET, sizeof control);
+    for (unsigned w = 0; w < ibft_control_words(&control); w++) {
+        struct ibft_structure_header header;
+        uint16_t start;
+
+        memcpy(&start, table + IBFT_WORD_OFFSET(w), sizeof start);
+        memcpy(&header, table + start, sizeof header);
+        if (start != 0 && header.id == id && header.index == index)
+            return start;
+    }
+    return 0;
+}
+/* end of example */
+
 /* A table with NIC 0 and Target 0, a host name and a target name. */
 enum {
     CONTROL = 48,
     NIC_WORD = CONTROL + 10,
     TARGET_WORD = CONTROL + 12,
+    EXTRA_WORD = CONTROL + 18,
     NIC = 72,
     TARGET = 176,
     HEAP = TARGET + sizeof(struct ibft_target),
@@ -146,6 +167,31 @@ static void reads_the_target(void)
     expect(strcmp((const char *)table + target.name.offset, "iqn.a") == 0, "the name");
 }
 
+/* Lays the table with Target 7, an extra, in place of Target 0. */
+static void lay_extra(void)
+{
+    lay_table();
+    table[CONTROL + 2] = 20;
+    table[TARGET_WORD] = 0;
+    table[EXTRA_WORD] = TARGET;
+    table[TARGET + 4] = 7;
+    write_checksum();
+}
+
+static void finds_structures(void)
+{
+    lay_table();
+    expect(find_structure(table, IBFT_ID_NIC, 0) == NIC, "NIC 0");
+    expect(find_structure(table, IBFT_ID_TARGET, 0) == TARGET, "Target 0");
+    expect(find_structure(table, IBFT_ID_TARGET, 7) == 0, "Target 7 is not there");
+    lay_extra();
+    expect(accept_ibft(table, TABLE_LENGTH), "the check accepts a table with an extra");
+    expect(find_structure(table, IBFT_ID_TARGET, 7) == TARGET, "Target 7");
+    expect(find_structure(table, IBFT_ID_TARGET, 0) == 0, "Target 0 is not there");
+    expect(find_structure(table, IBFT_ID_NIC, 0) == NIC, "NIC 0 beside an extra");
+    printf("firmware_check: Target 7 found\n");
+}
+
 static void meets_refusals(void)
 {
     expect(ibft_check(NULL, 0) == IBFT_REFUSED_FEW_BYTES, "nothing lent");
@@ -153,7 +199,9 @@ static void meets_refusals(void)
     expect_refused("Length above the bytes lent", 5, 2, IBFT_REFUSED_LENGTH, 4);
     expect_refused("Revision 2", 8, 2, IBFT_REFUSED_REVISION, 8);
     expect_refused("OEM Table ID with a hole", 17, 'x', IBFT_REFUSED_OEM_TAIL, 16);
-    expect_refused("Control of 20 bytes", 50, 20, IBFT_REFUSED_CONTROL, CONTROL);
+    expect_refused("Control of 17 bytes", 50, 17, IBFT_REFUSED_CONTROL, CONTROL);
+    expect_refused("Control of 44 bytes", 50, 44, IBFT_REFUSED_CONTROL, CONTROL);
+    expect_refused("NIC in Control", 50, 26, IBFT_REFUSED_START, NIC_WORD);
     expect_refused("reserved flag of the NIC", NIC + 5, 8, IBFT_REFUSED_FLAGS, NIC + 5);
     expect_refused("Extensions", 54, 72, IBFT_REFUSED_EXTENSIONS, 54);
     expect_refused("target at 177", TARGET_WORD, 177, IBFT_REFUSED_START, TARGET_WORD);
@@ -171,6 +219,7 @@ int main(void)
 {
     finds_and_accepts();
     reads_the_target();
+    finds_structures();
     meets_refusals();
     return 0;
 }

@@ -1,6 +1,7 @@
 /*
  * Slots, entries, kinds, flags, limits, the header, Control and the window, each
- * by its name in bootfw.h, beside what the library answers.
+ * by its name in bootfw.h, beside what the library answers. Extras and refusals are
+ * in files of their own.
  *
  *   firmware_names             compares; exits 1 at the first difference
  *   firmware_names refusals    prints the numbers that have words of their own
@@ -83,6 +84,7 @@ static void names_control(void)
     expect(control.header.id == IBFT_ID_CONTROL, "the ID");
     expect(control.header.version == IBFT_STRUCTURE_VERSION, "the version");
     expect(control.header.length == sizeof control, "the length");
+    expect(ibft_control_words(&control) == IBFT_SLOTS, "a word for each named slot");
     expect(control.header.index == 0, "the Index");
     expect(control.header.flags == IBFT_CONTROL_SINGLE_LOGIN, "the flags");
     expect(control.extensions == 0, "the Extensions word");
@@ -149,7 +151,7 @@ static void names_largest_table(void)
 {
     unsigned i;
 
-    about = "the largest table";
+    about = "the largest table without extras";
     give_largest_record();
     expect_built(IBFT_LARGEST_LENGTH);
     for (i = 0; i < IBFT_SLOTS; i++)
@@ -251,5 +253,6 @@ int main(int count, char **words)
     names_parts_of_an_answer();
     names_addresses();
     compare_refusals();
+    compare_extras();
     return 0;
 }

@@ -1,8 +1,8 @@
 /*
- * The names of bootfw.h beside what the library answers: what firmware_names.c
- * and firmware_refusals.c have in common, which is firmware_record.c. All three
- * are C from C99 on and C++ from C++98 on: tests/host/run compiles them as each,
- * by GCC and by Clang.
+ * The names of bootfw.h beside what the library answers: what firmware_names.c,
+ * firmware_refusals.c and firmware_extras.c have in common, which is
+ * firmware_record.c. All four are C from C99 on and C++ from C++98 on:
+ * tests/host/run compiles them as each, by GCC and by Clang.
  */
 #ifndef FIRMWARE_NAMES_H
 #define FIRMWARE_NAMES_H
@@ -37,8 +37,8 @@ extern const struct named_entry entries[IBFT_ENTRIES];
  * has a stretch of its own. */
 enum { STRETCH = IBFT_LONGEST_STRING + 1 };
 extern struct ibft_record record;
-extern uint8_t strings[IBFT_ENTRIES * STRETCH];
-extern uint8_t room[IBFT_LARGEST_LENGTH];
+extern uint8_t strings[IBFT_MOST_ENTRIES * STRETCH];
+extern uint8_t room[IBFT_LARGEST_LENGTH_WITH_EXTRAS];
 
 /* What is being compared. */
 extern const char *about;
@@ -59,7 +59,11 @@ void give_flags(const struct named_slot *named, uint8_t flags);
 /* Gives so many bytes of the entry's stretch, and the entry's slot. */
 void give_entry(const struct named_entry *named, uint16_t length);
 
-/* Gives every entry, as long as it may be, no one the tail of another. */
+/* Gives the entry's stretch a first letter that no other stretch has, so that no
+ * longest string is the tail of another. */
+void give_own_letter(unsigned number);
+
+/* Gives every named entry, as long as it may be, no one the tail of another. */
 void give_largest_record(void);
 
 uint64_t build(void);
@@ -74,10 +78,13 @@ size_t start_of(enum ibft_slot slot);
 size_t field_of(const struct named_entry *named);
 struct ibft_entry table_entry(const struct named_entry *named);
 
-/* The answer to the table in the room, once its bytes sum to 0. */
+/* The answer to the table in the room, once its bytes sum to 0; and once, before
+ * that, one byte of it is set. */
 uint64_t check_mended(void);
+uint64_t check_with(size_t at, uint8_t byte);
 
 void compare_refusals(void);
+void compare_extras(void);
 
 /* Prints the numbers that have words of their own. */
 void print_refusals(void);

@@ -54,8 +54,8 @@ const struct named_entry entries[IBFT_ENTRIES] = {
 };
 
 struct ibft_record record;
-uint8_t strings[IBFT_ENTRIES * STRETCH];
-uint8_t room[IBFT_LARGEST_LENGTH];
+uint8_t strings[IBFT_MOST_ENTRIES * STRETCH];
+uint8_t room[IBFT_LARGEST_LENGTH_WITH_EXTRAS];
 const char *about;
 
 void expect(int holds, const char *what)
@@ -110,13 +110,21 @@ void give_entry(const struct named_entry *named, uint16_t length)
     memcpy((uint8_t *)&record + slots[named->slot].image + named->field, &entry, sizeof entry);
 }
 
+void give_own_letter(unsigned number)
+{
+    static const char letters[] = "bcdefghijklmnopqrstuvwxyzABCDEFGHIJKLMNOPQRSTUVWXYZ";
+
+    expect(number < sizeof letters - 1, "there is a letter for every entry");
+    strings[number * STRETCH] = (uint8_t)letters[number];
+}
+
 void give_largest_record(void)
 {
     unsigned i;
 
     clear_record();
     for (i = 0; i < IBFT_ENTRIES; i++) {
-        strings[entries[i].number * STRETCH] = (uint8_t)('b' + i);
+        give_own_letter(entries[i].number);
         give_entry(&entries[i], entries[i].longest);
     }
 }
@@ -183,4 +191,10 @@ uint64_t check_mended(void)
     header.checksum = (uint8_t)(header.checksum - sum);
     memcpy(room, &header, sizeof header);
     return ibft_check(room, sizeof room);
+}
+
+uint64_t check_with(size_t at, uint8_t byte)
+{
+    room[at] = byte;
+    return check_mended();
 }

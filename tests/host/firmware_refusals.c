@@ -8,16 +8,9 @@
 #include <stdio.h>
 #include <string.h>
 
-/* The answer to the table in the room, of which one byte is set. */
-static uint64_t check_with(size_t at, uint8_t byte)
-{
-    room[at] = byte;
-    return check_mended();
-}
-
 /* ---- The check ---------------------------------------------------------------- */
 
-/* The largest table, both OEM fields filled. */
+/* The largest table without extras, both OEM fields filled. */
 static void lay_table(void)
 {
     give_largest_record();
@@ -154,7 +147,8 @@ static void refuses_record(void)
 
     about = "refusals of a record";
     give_largest_record();
-    expect_answer(ibft_build(range, sizeof record, strings, sizeof strings, room, sizeof room - 1),
+    expect_answer(ibft_build(range, sizeof record, strings, sizeof strings, room,
+                             IBFT_LARGEST_LENGTH - 1),
                   IBFT_REFUSED_ROOM, 0);
     expect_answer(ibft_build(range, sizeof record - 1, strings, sizeof strings, room, sizeof room),
                   IBFT_REFUSED_RECORD, 0);
@@ -190,15 +184,32 @@ static void refuses_strings(void)
 
 /* ---- In words --------------------------------------------------------------------- */
 
-/* By number, what its text has to say and no text before it says. */
-static const char *const said[] = {
-    "accepted", "0x100000", "no sound table", "48 bytes", "signature", "Length is", "sum",
-    "Revision", "OEM", "Control", "flag bit", "Extensions", "misaligned", "structure's ID", "share",
-    "heap", "follows a string", "too long", "host name", "CHAP type", "holds a zero byte",
-    "exceeds the room", "is missing", "no such slot", "range lent for strings", "presence mark"
+/* What the text of each number has to say and no text before it says. */
+static const struct {
+    unsigned number;
+    const char *words;
+} said[] = {
+    { 0, "accepted" }, { 1, "0x100000" }, { 2, "no sound table" }, { 3, "48 bytes" },
+    { 4, "signature" }, { 5, "Length is" }, { 6, "sum" }, { 7, "Revision" }, { 8, "OEM" },
+    { 9, "Control" }, { 10, "flag bit" }, { 11, "Extensions" }, { 12, "misaligned" },
+    { 13, "structure's ID" }, { 14, "share" }, { 15, "heap" }, { 16, "follows a string" },
+    { 17, "too long" }, { 18, "host name" }, { 19, "CHAP type" }, { 20, "holds a zero byte" },
+    { 21, "exceeds the room" }, { 22, "is missing" }, { 23, "no such slot" },
+    { 24, "range lent for strings" }, { 25, "presence mark" }, { 33, "is taken" },
+    { 34, "a seventh" }
 };
 
 enum { NUMBERS = sizeof said / sizeof said[0] };
+
+static int is_said(unsigned number)
+{
+    unsigned i;
+
+    for (i = 0; i < NUMBERS; i++)
+        if (said[i].number == number)
+            return 1;
+    return 0;
+}
 
 static int has_own_text(unsigned number)
 {
@@ -207,19 +218,21 @@ static int has_own_text(unsigned number)
 
 static void words_each_refusal(void)
 {
-    unsigned number, other;
+    unsigned number, i, other;
 
     about = "refusals in words";
     for (number = 0; number <= UINT8_MAX; number++) {
         const char *text = ibft_refusal_text(number);
 
         expect(text[0] != '\0' && strchr(text, '\n') == NULL, "a text is one line");
-        expect(has_own_text(number) == (number < NUMBERS), "0 to 25 have a text, no other number");
+        expect(has_own_text(number) == is_said(number),
+               "0 to 25, 33 and 34 have a text, no other number");
     }
-    for (number = 0; number < NUMBERS; number++)
-        for (other = 0; other <= number; other++)
-            expect((strstr(ibft_refusal_text(other), said[number]) != NULL) == (other == number),
-                   said[number]);
+    for (i = 0; i < NUMBERS; i++)
+        for (other = 0; other <= i; other++)
+            expect((strstr(ibft_refusal_text(said[other].number), said[i].words) != NULL)
+                       == (other == i),
+                   said[i].words);
     expect(!has_own_text(UINT8_MAX + 1 + IBFT_REFUSED_NO_TABLE), "nothing is cut to eight bits");
     expect(IBFT_REFUSED_MISSING == 22 && IBFT_REFUSED_NO_SUCH == 23, "the two that no call gives");
 }

@@ -1,7 +1,7 @@
 //! Records that no build refuses but for want of room, as various as RULES.md lets them be. What
 //! is no part of the record holds rubbish; strings lie anywhere in their range and share bytes.
 
-use crate::good_tables::{any_bytes, any_host_name, oem_text, shuffle};
+use crate::good_tables::{any_bytes, any_extra_index, any_host_name, oem_text, shuffle};
 use crate::model_host_name::is_host_name;
 use crate::model_layout::*;
 use crate::model_record_range::*;
@@ -9,16 +9,48 @@ use crate::record_maker::Given;
 use crate::seeded::Seeded;
 use crate::table_maker::dots_between;
 
+/// How many extra NICs and extra targets; none where the range says nothing of extras.
+pub type Extras = Option<(usize, usize)>;
+
 pub fn good_record(seeded: &mut Seeded) -> Given {
+    any_record(seeded, None)
+}
+
+/// A good record whose range tells how many extras there are: none, some or all.
+pub fn good_record_with_extras(seeded: &mut Seeded) -> Given {
+    let extras = any_extras(seeded);
+    any_record(seeded, Some(extras))
+}
+
+fn any_record(seeded: &mut Seeded, extras: Extras) -> Given {
     let slot_odds = seeded.one_of(&[1, 1, 2, 2, 3]);
     let entry_odds = seeded.one_of(&[1, 1, 2, 4]);
     let longest = seeded.one_of(&[4, 8, 12, 40, 255]);
-    record_like(seeded, slot_odds, entry_odds, longest)
+    record_like(seeded, extras, slot_odds, entry_odds, longest)
 }
 
-/// All five structures and all thirteen strings, none longer than `longest`.
-pub fn whole_record(seeded: &mut Seeded, longest: usize) -> Given {
-    record_like(seeded, 1, 1, longest)
+/// Up to six of each kind, often few of one.
+fn any_extras(seeded: &mut Seeded) -> (usize, usize) {
+    let mut count = || {
+        let any = seeded.between(0, 6);
+        seeded.one_of(&[0, 1, 2, any, any, any, 6])
+    };
+    (count(), count())
+}
+
+/// A good record with at least one extra.
+pub fn record_with_an_extra(seeded: &mut Seeded) -> Given {
+    loop {
+        let given = good_record_with_extras(seeded);
+        if !given.extra_slots().is_empty() {
+            return given;
+        }
+    }
+}
+
+/// All structures and all strings, none longer than `longest`.
+pub fn whole_record(seeded: &mut Seeded, extras: Extras, longest: usize) -> Given {
+    record_like(seeded, extras, 1, 1, longest)
 }
 
 /// A good record with at least one structure.
@@ -41,15 +73,21 @@ pub fn record_with_strings(seeded: &mut Seeded) -> Given {
     }
 }
 
-/// A structure is present once in `slot_odds` times, a string once in `entry_odds`.
-fn record_like(seeded: &mut Seeded, slot_odds: usize, entry_odds: usize, longest: usize) -> Given {
-    let mut given = record_without_strings(seeded, slot_odds);
-    let entries = given.owned_entries();
+/// A named structure is present once in `slot_odds` times, a string once in `entry_odds`.
+fn record_like(
+    seeded: &mut Seeded,
+    extras: Extras,
+    slot_odds: usize,
+    entry_odds: usize,
+    longest: usize,
+) -> Given {
+    let mut given = record_without_strings(seeded, extras, slot_odds);
+    let entries = given.entries();
     let mut family = Family::new(seeded, longest);
     let mut texts = Vec::new();
-    for entry in entries {
+    for entry in given.owned_entries() {
         if seeded.once_in(entry_odds) {
-            texts.push((entry, family.text(seeded, entry)));
+            texts.push((entry, family.text(seeded, &entries[entry].text)));
         }
     }
     scatter(seeded, &mut given, texts);
@@ -57,34 +95,60 @@ fn record_like(seeded: &mut Seeded, slot_odds: usize, entry_odds: usize, longest
 }
 
 /// Structures with any flags and fields that are not refused, and no strings. An absent structure's
-/// image and what is marked there may be anything; so may the words of a missing string.
-pub fn record_without_strings(seeded: &mut Seeded, slot_odds: usize) -> Given {
-    let filler = any_bytes(seeded, RECORD_SIZE);
-    let mut given = Given::new(&filler);
+/// image and what is marked there may be anything; so may the words of a missing string, and of an
+/// extra's image its ID, Version and Length.
+pub fn record_without_strings(seeded: &mut Seeded, extras: Extras, slot_odds: usize) -> Given {
+    let (nics, targets) = extras.unwrap_or((0, 0));
+    let filler = any_bytes(seeded, range_size(nics, targets));
+    let mut given = match extras {
+        None => Given::new(&filler),
+        Some(_) => Given::with_extras(&filler, nics, targets),
+    };
     for field in [GIVEN_OEM_ID, GIVEN_OEM_TABLE_ID] {
         let text = oem_text(seeded, field.len());
         given.record[field].copy_from_slice(&text);
     }
     let mode = seeded.between(0, 1) as u8;
     given.set_control_flags(mode);
-    for (slot, Slot { kind, .. }) in SLOTS.iter().enumerate() {
+    for slot in 0..SLOTS.len() {
         if seeded.once_in(slot_odds) {
             given.mark_slot(slot, 1);
-            let flags = seeded.byte() & kind.named_flags as u8;
-            given.set_flags(slot, flags);
-            if kind.id == TARGET.id {
-                let chap_type = seeded.between(0, 2) as u8;
-                given.set(slot, CHAP_TYPE_AT, chap_type);
-            }
         }
     }
-    for (entry, Entry { slot, .. }) in ENTRIES.iter().enumerate() {
-        if !given.has_slot(*slot) {
+    let slots = given.slots();
+    for (slot, GivenSlot { kind, .. }) in slots.iter().enumerate().filter(|s| s.1.is_present) {
+        let flags = seeded.byte() & kind.named_flags as u8;
+        given.set_flags(slot, flags);
+        if *kind == TARGET {
+            let chap_type = seeded.between(0, 2) as u8;
+            given.set(slot, CHAP_TYPE_AT, chap_type);
+        }
+    }
+    for (first, count) in [(SLOTS.len(), nics), (SLOTS.len() + nics, targets)] {
+        for (i, index) in ascending(seeded, count).iter().enumerate() {
+            given.set_index(first + i, *index);
+        }
+    }
+    for (entry, GivenEntry { slot, .. }) in given.entries().iter().enumerate() {
+        if !slots[*slot].is_present {
             let mark = seeded.between(0, 1) as u8;
             given.mark_entry(entry, mark);
         }
     }
     given
+}
+
+/// So many Index values, each above the one before; more than six are for records with too many.
+pub fn ascending(seeded: &mut Seeded, count: usize) -> Vec<u8> {
+    let mut values: Vec<u8> = Vec::new();
+    while values.len() < count {
+        let index = any_extra_index(seeded);
+        if !values.contains(&index) {
+            values.push(index);
+        }
+    }
+    values.sort_unstable();
+    values
 }
 
 // ---- Strings that have much in common ----
@@ -111,16 +175,16 @@ impl Family {
     }
 
     /// A string that the entry may have.
-    fn text(&mut self, seeded: &mut Seeded, entry: usize) -> Vec<u8> {
+    fn text(&mut self, seeded: &mut Seeded, entry: &StringField) -> Vec<u8> {
         let mut text = self.any_text(seeded);
-        let longest = self.longest.min(ENTRIES[entry].longest as usize);
+        let longest = self.longest.min(entry.longest as usize);
         if text.len() > longest {
             text = match seeded.between(0, 3) {
                 0 => text[..longest].to_vec(),
                 _ => text[text.len() - longest..].to_vec(),
             };
         }
-        if ENTRIES[entry].is_host_name && !is_host_name(&text) {
+        if entry.is_host_name && !is_host_name(&text) {
             text = any_host_name(seeded);
         }
         self.made.push(text.clone());

@@ -5,7 +5,7 @@ use crate::compare_host_name::good_name;
 use crate::model_check::check;
 use crate::model_layout::*;
 use crate::seeded::Seeded;
-use crate::table_maker::{dots_between, Table};
+use crate::table_maker::{dots_between, Table, FIRST_EXTRA};
 
 /// Where offsets end: a string starts below it, though it may end past it.
 const OFFSET_END: usize = 0x10000;
@@ -13,17 +13,68 @@ const OFFSET_END: usize = 0x10000;
 /// The greatest start that a Control word can hold.
 const LAST_START: usize = 0xFFF8;
 
+/// A structure to be laid: the number of its Control word, its kind and its Index.
+#[derive(Clone, Copy)]
+struct Wanted {
+    word: usize,
+    kind: Kind,
+    index: u8,
+}
+
+/// A good table whose Control has no extra words.
 pub fn good_table(seeded: &mut Seeded) -> Table {
-    let slots = any_slots(seeded);
-    let starts = any_starts(seeded, &slots);
-    let mut table = table_with(seeded, &starts, 0);
+    let wanted = any_named(seeded);
+    good_table_of(seeded, wanted, 0)
+}
+
+/// A good table whose Control has extra words, used or not, in any order.
+pub fn good_table_with_extras(seeded: &mut Seeded) -> Table {
+    let mut wanted = any_named(seeded);
+    let extra_words = any_extra_words(seeded);
+    wanted.extend(any_extras(seeded, extra_words, EXTRAS_OF_A_KIND));
+    good_table_of(seeded, wanted, extra_words)
+}
+
+/// A table that is good but for a seventh extra of a kind, or one more yet.
+pub fn table_with_too_many(seeded: &mut Seeded) -> Table {
+    loop {
+        let mut wanted = any_named(seeded);
+        let extra_words = seeded.between(7, EXTRA_WORDS as usize);
+        let extras = any_extras(seeded, extra_words, EXTRA_WORDS as usize);
+        let count = |kind| of_kind(&extras, kind).len();
+        if count(NIC).max(count(TARGET)) > EXTRAS_OF_A_KIND {
+            wanted.extend(extras);
+            return good_table_of(seeded, wanted, extra_words);
+        }
+    }
+}
+
+fn good_table_of(seeded: &mut Seeded, mut wanted: Vec<Wanted>, extra_words: usize) -> Table {
+    shuffle(seeded, &mut wanted);
+    let apart = seeded.one_of(&[0, 0, 1, 2, 10]);
+    let starts = spread(seeded, &wanted, extra_words, 0, apart);
+    let mut table = table_with(seeded, &wanted, &starts, extra_words, 0);
     add_texts(seeded, &mut table);
     table.mended()
 }
 
+/// A good table with at least one extra structure, some of them with bytes lent behind Length.
+pub fn table_with_extras(seeded: &mut Seeded) -> Table {
+    loop {
+        let table = lent_with_more(seeded, good_table_with_extras);
+        if slots(&table.bytes).len() > SLOTS.len() {
+            return table;
+        }
+    }
+}
+
 /// A good table, some of them with bytes lent behind Length.
 pub fn lent_table(seeded: &mut Seeded) -> Table {
-    let mut table = good_table(seeded);
+    lent_with_more(seeded, good_table)
+}
+
+fn lent_with_more(seeded: &mut Seeded, make: fn(&mut Seeded) -> Table) -> Table {
+    let mut table = make(seeded);
     if seeded.once_in(3) {
         let more = any_bytes(seeded, 80);
         table.lend_more(&more);
@@ -35,35 +86,50 @@ pub fn lent_table(seeded: &mut Seeded) -> Table {
 pub fn table_with_structures(seeded: &mut Seeded) -> Table {
     loop {
         let table = lent_table(seeded);
-        if !table.present_slots().is_empty() {
+        if !table.used_words().is_empty() {
             return table;
         }
     }
 }
 
-/// A table of more than 64 KiB, structures anywhere in it. Strings start below 64 KiB and some end
-/// past it.
+/// A table of more than 64 KiB without extra words, structures anywhere in it. Strings start below 64 KiB
+/// and some end past it.
 pub fn large_table(seeded: &mut Seeded) -> Table {
-    let slots = any_slots(seeded);
-    let apart = 10_500 / ALIGNMENT as usize;
+    let wanted = any_named(seeded);
+    large_table_of(seeded, wanted, 0)
+}
+
+/// The same with extra words.
+pub fn large_table_with_extras(seeded: &mut Seeded) -> Table {
+    let mut wanted = any_named(seeded);
+    let extra_words = any_extra_words(seeded);
+    wanted.extend(any_extras(seeded, extra_words, EXTRAS_OF_A_KIND));
+    large_table_of(seeded, wanted, extra_words)
+}
+
+fn large_table_of(seeded: &mut Seeded, mut wanted: Vec<Wanted>, extra_words: usize) -> Table {
+    shuffle(seeded, &mut wanted);
+    // So far apart that the last may start just below 64 KiB, and no further.
+    let apart = 52_000 / ALIGNMENT as usize / wanted.len().max(5);
     let first = seeded.one_of(&[0, 0, 900]);
-    let mut starts = spread(seeded, &slots, first, apart);
+    let mut starts = spread(seeded, &wanted, extra_words, first, apart);
     if seeded.once_in(3) {
-        if let Some(last) = starts.iter_mut().max_by_key(|(_, start)| *start) {
-            last.1 = LAST_START - 8 * seeded.one_of(&[0, 0, 1, 6, 7, 13]);
+        if let Some(last) = starts.last_mut() {
+            *last = LAST_START - 8 * seeded.one_of(&[0, 0, 1, 6, 7, 13]);
         }
     }
     let length = OFFSET_END + seeded.one_of(&[0, 1, 10, 46, 94, 102, 200, 255, 256, 700, 40_000]);
-    let mut table = table_with(seeded, &starts, length);
-    for entry in table.owned_entries() {
-        let size = ENTRIES[entry].longest as usize;
-        let text = any_text(seeded, entry, size);
+    let mut table = table_with(seeded, &wanted, &starts, extra_words, length);
+    let entries = table.entries();
+    for number in table.owned_entries() {
+        let entry = &entries[number];
+        let text = any_text(seeded, entry, entry.longest as usize);
         let heap = heap_start(&table.bytes) as usize;
         let last = (OFFSET_END - 1).min(table.length() - text.len() - 1);
         if heap <= last && seeded.once_in(2) {
             let low = last - last.saturating_sub(heap).min(300);
             let offset = seeded.between(low, last);
-            lay_text(&mut table, entry, offset, &text);
+            lay_text(&mut table, number, offset, &text);
         }
     }
     repair_entries(&mut table);
@@ -92,42 +158,106 @@ fn repair_entries(table: &mut Table) {
 
 // ---- Structures ----
 
-fn any_slots(seeded: &mut Seeded) -> Vec<usize> {
+fn any_named(seeded: &mut Seeded) -> Vec<Wanted> {
     let odds = seeded.one_of(&[1, 1, 2, 2, 3]);
-    let mut slots: Vec<usize> = (0..SLOTS.len()).filter(|_| seeded.once_in(odds)).collect();
-    shuffle(seeded, &mut slots);
-    slots
+    let mut wanted = Vec::new();
+    for (word, slot) in SLOTS.iter().enumerate() {
+        if seeded.once_in(odds) {
+            wanted.push(Wanted {
+                word,
+                kind: slot.kind,
+                index: slot.index as u8,
+            });
+        }
+    }
+    wanted
 }
 
-/// Each slot's start, one behind the other in the order given.
-fn any_starts(seeded: &mut Seeded, slots: &[usize]) -> Vec<(usize, usize)> {
-    let apart = seeded.one_of(&[0, 0, 1, 2, 10]);
-    spread(seeded, slots, 0, apart)
+/// How many extra words Control has: any number up to twelve, often few or all.
+fn any_extra_words(seeded: &mut Seeded) -> usize {
+    let any = seeded.between(0, EXTRA_WORDS as usize);
+    seeded.one_of(&[any, any, any, 1, 2, 3, 12])
 }
 
-/// Starts with `first` steps of eight bytes before the lowest and up to `apart` before each.
-fn spread(seeded: &mut Seeded, slots: &[usize], first: usize, apart: usize) -> Vec<(usize, usize)> {
+/// Extras for some of the words, at most `most` of a kind, no Index twice in a kind.
+fn any_extras(seeded: &mut Seeded, extra_words: usize, most: usize) -> Vec<Wanted> {
+    let odds = seeded.one_of(&[1, 1, 2, 3]);
+    let nics_among = seeded.one_of(&[1, 2, 2, 2, 4, 20]);
+    let mut wanted: Vec<Wanted> = Vec::new();
+    for word in FIRST_EXTRA..FIRST_EXTRA + extra_words {
+        if !seeded.once_in(odds) {
+            continue;
+        }
+        let mut kind = if seeded.once_in(nics_among) {
+            NIC
+        } else {
+            TARGET
+        };
+        if of_kind(&wanted, kind).len() == most {
+            kind = if kind == NIC { TARGET } else { NIC };
+        }
+        let taken = of_kind(&wanted, kind);
+        let index = loop {
+            let index = any_extra_index(seeded);
+            if !taken.contains(&index) {
+                break index;
+            }
+        };
+        wanted.push(Wanted { word, kind, index });
+    }
+    wanted
+}
+
+/// The Index values of a kind's extras.
+fn of_kind(wanted: &[Wanted], kind: Kind) -> Vec<u8> {
+    let same = wanted.iter().filter(|wanted| wanted.kind == kind);
+    same.map(|wanted| wanted.index).collect()
+}
+
+/// An Index that an extra may have: near the limits, small, or any.
+pub fn any_extra_index(seeded: &mut Seeded) -> u8 {
+    let small = seeded.between(2, 12) as u8;
+    let any = seeded.between(2, 255) as u8;
+    seeded.one_of(&[2, 3, 254, 255, small, small, any, any])
+}
+
+/// Each structure's start, one behind the other in the order given: `first` steps of eight bytes before
+/// the lowest and up to `apart` before each.
+fn spread(
+    seeded: &mut Seeded,
+    wanted: &[Wanted],
+    extra_words: usize,
+    first: usize,
+    apart: usize,
+) -> Vec<usize> {
     let mut starts = Vec::new();
-    let mut next = FIRST_START as usize + 8 * first;
-    for slot in slots {
+    let control_end = CONTROL_END as usize + 2 * extra_words;
+    let mut next = (control_end + 7) / 8 * 8 + 8 * first;
+    for Wanted { kind, .. } in wanted {
         let start = next + 8 * seeded.between(0, apart);
-        let end = start + SLOTS[*slot].kind.length as usize;
-        starts.push((*slot, start));
+        let end = start + kind.length as usize;
+        starts.push(start);
         next = (end + 7) / 8 * 8;
     }
     starts
 }
 
 /// The header, Control and the structures, with any fields; Length is at least `length` and holds
-/// the structures.
-fn table_with(seeded: &mut Seeded, starts: &[(usize, usize)], length: usize) -> Table {
-    let ends = starts
-        .iter()
-        .map(|(slot, start)| start + SLOTS[*slot].kind.length as usize);
-    let end = ends.fold(CONTROL_END as usize, usize::max).max(length);
-    let mut table = Table::new(end);
+/// the structures. What lies between is anything.
+fn table_with(
+    seeded: &mut Seeded,
+    wanted: &[Wanted],
+    starts: &[usize],
+    extra_words: usize,
+    length: usize,
+) -> Table {
+    let placed = || wanted.iter().zip(starts);
+    let control_end = CONTROL_END as usize + 2 * extra_words;
+    let ends = placed().map(|(wanted, start)| start + wanted.kind.length as usize);
+    let end = ends.fold(control_end, usize::max).max(length);
+    let mut table = Table::with_words(end, extra_words);
     let gaps = any_bytes(seeded, end);
-    table.write(CONTROL_END as usize, &gaps[..end - CONTROL_END as usize]);
+    table.write(control_end, &gaps[..end - control_end]);
     let reserved = any_bytes(seeded, 24);
     table.write(24, &reserved);
     for field in [OEM_ID, OEM_TABLE_ID] {
@@ -136,25 +266,42 @@ fn table_with(seeded: &mut Seeded, starts: &[(usize, usize)], length: usize) -> 
     }
     let mode = seeded.between(0, 1) as u8;
     table.set_control_flags(mode);
-    for (slot, start) in starts {
-        put_filled(seeded, &mut table, *slot, *start);
+    for (wanted, start) in placed() {
+        put_filled_of(seeded, &mut table, wanted, *start);
     }
     table
 }
 
-/// A structure with any flags and fields that the check lets pass, and no strings.
+/// A named structure with any flags and fields that the check lets pass, and no strings.
 pub fn put_filled(seeded: &mut Seeded, table: &mut Table, slot: usize, start: usize) {
-    let kind = &SLOTS[slot].kind;
+    let Slot { kind, index, .. } = SLOTS[slot];
+    put_filled_as(seeded, table, slot, kind, index as u8, start);
+}
+
+/// The same of an extra structure.
+pub fn put_filled_as(
+    seeded: &mut Seeded,
+    table: &mut Table,
+    word: usize,
+    kind: Kind,
+    index: u8,
+    start: usize,
+) {
+    put_filled_of(seeded, table, &Wanted { word, kind, index }, start);
+}
+
+fn put_filled_of(seeded: &mut Seeded, table: &mut Table, wanted: &Wanted, start: usize) {
+    let Wanted { word, kind, index } = *wanted;
     let mut image = any_bytes(seeded, kind.length as usize);
     image[FLAGS_AT as usize] = seeded.byte() & kind.named_flags as u8;
-    if kind.id == TARGET.id {
+    if kind == TARGET {
         image[CHAP_TYPE_AT as usize] = seeded.between(0, 2) as u8;
     }
-    for entry in ENTRIES.iter().filter(|entry| entry.slot == slot) {
-        image[entry.at as usize..entry.at as usize + 4].fill(0);
+    for text in kind.texts {
+        image[text.at as usize..text.at as usize + 4].fill(0);
     }
     table.write(start, &image);
-    table.put_structure(slot, start);
+    table.put_extra(word, &kind, index, start);
 }
 
 /// Bytes that are not zero, then zeros.
@@ -186,17 +333,19 @@ pub fn shuffle<T>(seeded: &mut Seeded, list: &mut [T]) {
 /// Lays strings behind the structures, in any order of the entries.
 fn add_texts(seeded: &mut Seeded, table: &mut Table) {
     let heap = table.length();
-    let mut entries = table.owned_entries();
-    shuffle(seeded, &mut entries);
+    let entries = table.entries();
+    let mut numbers = table.owned_entries();
+    shuffle(seeded, &mut numbers);
     let longest = seeded.one_of(&[6, 12, 40, 255]);
     let mut texts: Vec<Vec<u8>> = Vec::new();
-    for entry in &entries {
+    for number in numbers {
+        let entry = &entries[number];
         match seeded.between(0, 7) {
             0 | 1 => {}
-            2 | 3 => share(seeded, table, *entry, heap),
+            2 | 3 => share(seeded, table, number, entry, heap),
             _ => {
-                let text = text_like(seeded, *entry, longest, &texts);
-                add_text(seeded, table, *entry, &text, heap);
+                let text = text_like(seeded, entry, longest, &texts);
+                add_text(seeded, table, number, &text, heap);
                 texts.push(text);
             }
         }
@@ -228,26 +377,26 @@ fn add_text(seeded: &mut Seeded, table: &mut Table, entry: usize, text: &[u8], h
 
 /// Points an entry that is no host name at bytes that are there, up to any zero byte in the heap.
 /// It may hold zero bytes and start or end inside the strings of others.
-fn share(seeded: &mut Seeded, table: &mut Table, entry: usize, heap: usize) {
+fn share(seeded: &mut Seeded, table: &mut Table, number: usize, entry: &Entry, heap: usize) {
     let zeros: Vec<usize> = (heap..table.length())
         .filter(|at| table.bytes[*at] == 0)
         .collect();
-    if zeros.is_empty() || ENTRIES[entry].is_host_name {
+    if zeros.is_empty() || entry.is_host_name {
         return;
     }
     let zero = seeded.one_of(&zeros);
-    let lowest = heap.max(zero.saturating_sub(ENTRIES[entry].longest as usize));
+    let lowest = heap.max(zero.saturating_sub(entry.longest as usize));
     let offset = seeded.between(lowest, zero);
-    table.point(entry, offset, zero - offset);
+    table.point(number, offset, zero - offset);
 }
 
 /// A string for the entry: new, or one that is there already, or the tail of one.
-fn text_like(seeded: &mut Seeded, entry: usize, longest: usize, texts: &[Vec<u8>]) -> Vec<u8> {
-    if !texts.is_empty() && !ENTRIES[entry].is_host_name && seeded.once_in(3) {
+fn text_like(seeded: &mut Seeded, entry: &Entry, longest: usize, texts: &[Vec<u8>]) -> Vec<u8> {
+    if !texts.is_empty() && !entry.is_host_name && seeded.once_in(3) {
         let pick = seeded.between(0, texts.len() - 1);
         let from = seeded.between(0, texts[pick].len());
         let tail = &texts[pick][from..];
-        if tail.len() <= ENTRIES[entry].longest as usize {
+        if tail.len() <= entry.longest as usize {
             return tail.to_vec();
         }
     }
@@ -255,11 +404,11 @@ fn text_like(seeded: &mut Seeded, entry: usize, longest: usize, texts: &[Vec<u8>
 }
 
 /// A string of at most `longest` bytes that the entry may have; a host name may be longer.
-pub fn any_text(seeded: &mut Seeded, entry: usize, longest: usize) -> Vec<u8> {
-    if ENTRIES[entry].is_host_name {
+pub fn any_text(seeded: &mut Seeded, entry: &Entry, longest: usize) -> Vec<u8> {
+    if entry.is_host_name {
         return any_host_name(seeded);
     }
-    let most = longest.min(ENTRIES[entry].longest as usize);
+    let most = longest.min(entry.longest as usize);
     let size = seeded.between(0, most);
     let size = seeded.one_of(&[0, most, size, size, size, size]);
     match seeded.between(0, 3) {

@@ -40,9 +40,12 @@ fn refused(name: &'static str, given: Given, room_size: usize, number: u64, plac
     }
 }
 
-/// Cases 1 to 9, 11 and 12 of RULES.md, Worked cases, and its names of 223 and 224 bytes.
+/// Cases 1 to 9, 11 and 12 of RULES.md, Worked cases, and its names of 223 and 224 bytes; then records
+/// with extras, worked by hand.
 fn known_records() -> Vec<Known> {
     let of = record_with;
+    let with_extras = record_with_extras;
+    let twelve = |texts: &[(usize, &[u8])]| with_extras(&[0, 1, 2, 3, 4], &SIX, &SIX, texts);
     let target = |reverse: &[u8]| of(&[2], &[(3, b"depot7"), (5, reverse)]);
     let name = |size: usize| of(&[2], &[(2, &vec![b'n'; size])]);
     vec![
@@ -62,6 +65,93 @@ fn known_records() -> Vec<Known> {
         refused("name of 224", name(224), 400, 17, 2),
         built("the common record", common_record(), 414, &[(3, 336)]),
         built("the worst record", worst_record(), 3_702, &[(0, 470)]),
+        built("NIC 2 alone", with_extras(&[], &[2], &[], &[]), 174, &[]),
+        built(
+            "Target 255 alone",
+            with_extras(&[], &[], &[255], &[]),
+            126,
+            &[],
+        ),
+        // Three extra words end Control at 72, four at 74: the first structure stands at 72 or 80.
+        built(
+            "three targets",
+            with_extras(&[], &[], &[2, 3, 4], &[]),
+            238,
+            &[],
+        ),
+        built(
+            "four targets",
+            with_extras(&[], &[], &[2, 3, 4, 9], &[]),
+            302,
+            &[],
+        ),
+        built(
+            "extras' strings",
+            with_extras(
+                &[0],
+                &[5],
+                &[9],
+                &[(0, b"iqn.a"), (13, b"a."), (14, b"n.a"), (15, b"a")],
+            ),
+            319,
+            &[(0, 310), (13, 316), (14, 312), (15, 314)],
+        ),
+        built(
+            "a record with 4 targets",
+            record_with_targets(4),
+            1_148,
+            &[],
+        ),
+        built("strings differ in the middle", middle_record(), 3_702, &[]),
+        built("twelve extras", twelve(&[]), 1_454, &[]),
+        built(
+            "the worst record with extras",
+            worst_record_with_extras(),
+            13_710,
+            &[(0, 1_454)],
+        ),
+        refused(
+            "NIC of Index 1",
+            with_extras(&[], &[1], &[], &[]),
+            200,
+            13,
+            5,
+        ),
+        refused(
+            "Target of Index 0",
+            with_extras(&[], &[7], &[0], &[]),
+            400,
+            13,
+            6,
+        ),
+        refused(
+            "an Index twice",
+            with_extras(&[], &[7, 7], &[], &[]),
+            400,
+            33,
+            6,
+        ),
+        refused(
+            "an Index lower",
+            with_extras(&[], &[7], &[9, 8], &[]),
+            400,
+            33,
+            7,
+        ),
+        refused(
+            "seven NICs",
+            with_extras(&[], &[2, 3, 4, 5, 6, 7, 8], &[1], &[]),
+            900,
+            34,
+            11,
+        ),
+        refused(
+            "seven targets",
+            with_extras(&[], &[2], &[2, 3, 4, 5, 6, 7, 0], &[]),
+            900,
+            34,
+            12,
+        ),
     ]
 }
 

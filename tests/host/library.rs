@@ -10,6 +10,9 @@ pub type NumberedReading = unsafe extern "C" fn(*const u8, usize, u8, *mut u8, u
 /// A copy of what a view shows: the table, the number, and the bytes for the copy; how many the view has.
 pub type View = unsafe extern "C" fn(*const u8, usize, u8, *mut u8, usize) -> usize;
 
+/// The Index that a reading answers, by the reading's number.
+pub type Index = unsafe extern "C" fn(*const u8, usize, u8) -> u8;
+
 /// A build: record, strings and room.
 pub type Build = unsafe extern "C" fn(*const u8, usize, *const u8, usize, *mut u8, usize) -> u64;
 
@@ -29,6 +32,11 @@ extern "C" {
     pub fn test_checksum(bytes: *const u8, size: usize, at: usize) -> u8;
     pub fn test_common_tail(a: *const u8, a_size: usize, b: *const u8, b_size: usize) -> usize;
     pub fn test_is_tail(a: *const u8, a_size: usize, b: *const u8, b_size: usize) -> u8;
+
+    pub fn test_structure_index(table: *const u8, size: usize, slot: u8) -> u8;
+    pub fn test_nic_index(table: *const u8, size: usize, n: u8) -> u8;
+    pub fn test_target_index(table: *const u8, size: usize, n: u8) -> u8;
+    pub fn test_login_places(table: *const u8, size: usize) -> u64;
 
     pub fn test_structure(table: *const u8, size: usize, slot: u8) -> u64;
     pub fn test_entry(table: *const u8, size: usize, entry: u8) -> u64;

@@ -10,8 +10,15 @@ use crate::model_record_range::*;
 /// The place of Control's flags in a build.
 pub const CONTROL_PLACE: u64 = 255;
 
-/// Slots in the order in which their structures stand: initiator, NIC 0, NIC 1, Target 0, Target 1.
-pub const BUILT_ORDER: [usize; 5] = [0, 1, 3, 2, 4];
+/// Slots in the order in which their structures stand: the initiator, all NICs by Index, all targets by
+/// Index. By kind the slots have them in the order of the Index.
+pub fn built_order(kinds: &[Kind]) -> Vec<usize> {
+    let mut order = Vec::new();
+    for kind in [INITIATOR, NIC, TARGET] {
+        order.extend((0..kinds.len()).filter(|slot| kinds[*slot] == kind));
+    }
+    order
+}
 
 /// The table that is built into a room of the given size.
 pub fn build(record: &[u8], strings: &[u8], room_size: usize) -> Result<Vec<u8>, Refusal> {
@@ -24,23 +31,29 @@ pub fn build(record: &[u8], strings: &[u8], room_size: usize) -> Result<Vec<u8>,
 pub fn least_table(record: &[u8], strings: &[u8]) -> Result<Vec<u8>, Refusal> {
     check_range(record)?;
     check_oem_fields(record)?;
-    check_control_flags(record)?;
-    for slot in 0..SLOTS.len() {
-        check_image(record, slot)?;
+    let slots = slots_given(record);
+    for slot in SLOTS.len()..slots.len() {
+        check_extra(record, &slots, slot)?;
     }
-    for entry in 0..ENTRIES.len() {
-        check_entry(record, strings, entry)?;
+    check_control_flags(record)?;
+    for (number, slot) in slots.iter().enumerate() {
+        check_image(record, slot, number as u64)?;
+    }
+    for (number, entry) in entries_given(record).iter().enumerate() {
+        check_entry(record, strings, entry, number as u64)?;
     }
     Ok(table_of(&record_given(record, strings)))
 }
 
 // ---- Refusals ----
 
-/// 25.
+/// 25. The marks of every extra count, one too many included.
 fn check_range(record: &[u8]) -> Verdict {
-    refuse_if(record.len() != RECORD_SIZE, 25, 0)?;
-    let marks = [&record[SLOT_MARKS], &record[ENTRY_MARKS]].concat();
-    refuse_if(marks.iter().any(|mark| *mark > 1), 25, 0)
+    refuse_if(!has_right_size(record), 25, 0)?;
+    let has_bad_mark = record[SLOT_MARKS].iter().any(|mark| *mark > 1);
+    refuse_if(has_bad_mark, 25, 0)?;
+    let entries = entries_given(record);
+    refuse_if(entries.iter().any(|entry| record[entry.mark] > 1), 25, 0)
 }
 
 /// 8, at the field's place in a table.
@@ -52,6 +65,23 @@ fn check_oem_fields(record: &[u8]) -> Verdict {
     Ok(())
 }
 
+/// 34, 13 and 33 of an extra structure, at its slot: the seventh of its kind, an Index below 2, one that
+/// is not above that of the extra of its kind before.
+fn check_extra(record: &[u8], slots: &[GivenSlot], slot: usize) -> Verdict {
+    let place = slot as u64;
+    let kind = slots[slot].kind;
+    let before: Vec<usize> = (SLOTS.len()..slot)
+        .filter(|earlier| slots[*earlier].kind == kind)
+        .collect();
+    refuse_if(before.len() >= EXTRAS_OF_A_KIND, 34, place)?;
+    let index = index_given(record, slots, slot);
+    refuse_if(index < FIRST_EXTRA_INDEX, 13, place)?;
+    match before.last() {
+        Some(last) => refuse_if(index <= index_given(record, slots, *last), 33, place),
+        None => Ok(()),
+    }
+}
+
 /// Control's 10.
 fn check_control_flags(record: &[u8]) -> Verdict {
     let flags = u64::from(record[GIVEN_CONTROL_FLAGS]);
@@ -59,44 +89,38 @@ fn check_control_flags(record: &[u8]) -> Verdict {
 }
 
 /// 10 and 19 of a structure that is present.
-fn check_image(record: &[u8], slot: usize) -> Verdict {
-    if !is_slot_given(record, slot) {
+fn check_image(record: &[u8], slot: &GivenSlot, place: u64) -> Verdict {
+    if !slot.is_present {
         return Ok(());
     }
-    let kind = &SLOTS[slot].kind;
-    let flags = byte(record, IMAGES[slot] + FLAGS_AT);
-    refuse_if(flags & !kind.named_flags != 0, 10, slot as u64)?;
-    if kind.id == TARGET.id {
-        let chap_type = byte(record, IMAGES[slot] + CHAP_TYPE_AT);
-        refuse_if(chap_type > LAST_CHAP_TYPE, 19, slot as u64)?;
+    let flags = byte(record, slot.image + FLAGS_AT);
+    refuse_if(flags & !slot.kind.named_flags != 0, 10, place)?;
+    if slot.kind == TARGET {
+        let chap_type = byte(record, slot.image + CHAP_TYPE_AT);
+        refuse_if(chap_type > LAST_CHAP_TYPE, 19, place)?;
     }
     Ok(())
 }
 
 /// 24, 17, 20, 18 of an entry that is present.
-fn check_entry(record: &[u8], strings: &[u8], entry: usize) -> Verdict {
-    if !is_entry_given(record, entry) {
+fn check_entry(record: &[u8], strings: &[u8], entry: &GivenEntry, place: u64) -> Verdict {
+    if !entry.is_present {
         return Ok(());
     }
-    let Entry {
-        longest,
-        is_host_name: must_be_host_name,
-        ..
-    } = ENTRIES[entry];
-    let place = entry as u64;
     let (length, start) = given_words(record, entry);
     refuse_if(start + length > strings.len() as u64, 24, place)?;
-    refuse_if(length > longest, 17, place)?;
+    refuse_if(length > entry.text.longest, 17, place)?;
     let text = &strings[start as usize..(start + length) as usize];
     refuse_if(text.contains(&0), 20, place)?;
-    refuse_if(must_be_host_name && !is_host_name(text), 18, place)
+    refuse_if(entry.text.is_host_name && !is_host_name(text), 18, place)
 }
 
 // ---- The table ----
 
 pub fn table_of(record: &Record) -> Vec<u8> {
+    let kinds = record.kinds();
     let starts = starts(record);
-    let heap_start = heap_start_of(&starts);
+    let heap_start = heap_start_of(record, &starts);
     let heap = Heap::of(&record.entries);
     let mut table = vec![0; heap_start as usize];
     write_header(&mut table, record);
@@ -106,10 +130,10 @@ pub fn table_of(record: &Record) -> Vec<u8> {
             write_structure(&mut table, record, slot, *start);
         }
     }
-    for entry in 0..ENTRIES.len() {
-        if let Some(text) = &record.entries[entry] {
-            let at = starts[ENTRIES[entry].slot].unwrap() + ENTRIES[entry].at;
-            let offset = heap_start + heap.offset(entry, text);
+    for (number, entry) in entries_of(&kinds).iter().enumerate() {
+        if let Some(text) = &record.entries[number] {
+            let at = starts[entry.slot].unwrap() + entry.at;
+            let offset = heap_start + heap.offset(number, text);
             write_number(&mut table, at, 2, text.len() as u64);
             write_number(&mut table, at + 2, 2, offset);
         }
@@ -122,26 +146,35 @@ pub fn table_of(record: &Record) -> Vec<u8> {
     table
 }
 
-/// By slot: the first structure at 72, each next at the next multiple of 8.
+/// Control takes 18 bytes and two more for each extra structure.
+fn built_control_length(record: &Record) -> u64 {
+    CONTROL.length + 2 * record.extras.len() as u64
+}
+
+/// By slot: the first structure at the first multiple of 8 at or behind Control's end, each next at the
+/// next.
 fn starts(record: &Record) -> Vec<Option<u64>> {
-    let mut starts = vec![None; SLOTS.len()];
-    let mut next = FIRST_START;
-    for slot in BUILT_ORDER {
+    let kinds = record.kinds();
+    let mut starts = vec![None; kinds.len()];
+    let mut next = CONTROL_START + built_control_length(record);
+    for slot in built_order(&kinds) {
         if record.structures[slot].is_some() {
-            starts[slot] = Some(next);
-            next += SLOTS[slot].kind.length;
             while next % ALIGNMENT != 0 {
                 next += 1;
             }
+            starts[slot] = Some(next);
+            next += kinds[slot].length;
         }
     }
     starts
 }
 
 /// Where the last structure ends, Control counted.
-fn heap_start_of(starts: &[Option<u64>]) -> u64 {
-    let end = |slot: usize| starts[slot].map_or(0, |start| start + SLOTS[slot].kind.length);
-    (0..SLOTS.len()).map(end).fold(CONTROL_END, u64::max)
+fn heap_start_of(record: &Record, starts: &[Option<u64>]) -> u64 {
+    let kinds = record.kinds();
+    let end = |slot: usize| starts[slot].map_or(0, |start| start + kinds[slot].length);
+    let control_end = CONTROL_START + built_control_length(record);
+    (0..kinds.len()).map(end).fold(control_end, u64::max)
 }
 
 fn write_number(table: &mut [u8], at: u64, width: usize, number: u64) {
@@ -156,11 +189,15 @@ fn write_header(table: &mut [u8], record: &Record) {
     table[OEM_TABLE_ID].copy_from_slice(&record.oem_table_id);
 }
 
+/// Its words: of the named slots, present or not, then of the extras, in the order of the slots.
 fn write_control(table: &mut [u8], record: &Record, starts: &[Option<u64>]) {
     write_start_bytes(table, CONTROL_START, &CONTROL, 0);
+    let length = built_control_length(record);
+    write_number(table, CONTROL_START + LENGTH_AT, 2, length);
     write_number(table, CONTROL_START + FLAGS_AT, 1, record.control_flags);
-    for (slot, start) in SLOTS.iter().zip(starts) {
-        write_number(table, slot.word, 2, start.unwrap_or(0));
+    for (slot, start) in starts.iter().enumerate() {
+        let word = SLOTS[0].word + 2 * slot as u64;
+        write_number(table, word, 2, start.unwrap_or(0));
     }
 }
 
@@ -173,9 +210,10 @@ fn write_start_bytes(table: &mut [u8], start: u64, kind: &Kind, index: u64) {
 }
 
 fn write_structure(table: &mut [u8], record: &Record, slot: usize, start: u64) {
-    write_start_bytes(table, start, &SLOTS[slot].kind, SLOTS[slot].index);
+    let kind = record.kinds()[slot];
+    write_start_bytes(table, start, &kind, record.index(slot));
     if let Some(given) = &record.structures[slot] {
-        table[start as usize..][fields(slot)].copy_from_slice(given);
+        table[start as usize..][fields(&kind)].copy_from_slice(given);
     }
 }
 

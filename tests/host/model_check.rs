@@ -1,4 +1,4 @@
-//! RULES.md, Refusals 3 to 19, read a second time: each rule once, in the order of the
+//! RULES.md, Refusals 3 to 19, 33 and 34, read a second time: each rule once, in the order of the
 //! check. The first that applies is the answer.
 
 use crate::model_host_name::is_host_name;
@@ -21,17 +21,21 @@ pub fn refuse_if(applies: bool, number: u64, place: u64) -> Verdict {
     }
 }
 
-/// The header and Control, each slot before the next, bytes that structures share, each entry
+/// The header and Control, each Control word before the next, bytes that structures share, each entry
 /// before the next.
 pub fn check(table: &[u8]) -> Verdict {
     check_header(table)?;
     check_control(table)?;
     for slot in &SLOTS {
-        check_structure(table, slot)?;
+        check_named(table, slot)?;
+    }
+    for word in extra_words(table) {
+        check_extra(table, word)?;
     }
     check_sharing(table)?;
-    for entry in &ENTRIES {
-        check_entry(table, entry)?;
+    let (slots, heap) = (slots(table), heap_start(table));
+    for entry in entries(&slots) {
+        check_entry(table, slots[entry.slot].start, heap, &entry)?;
     }
     Ok(())
 }
@@ -61,25 +65,61 @@ fn check_header(table: &[u8]) -> Verdict {
 
 /// 9, Control's 10, 11.
 fn check_control(table: &[u8]) -> Verdict {
-    let wrong = !has_start_bytes(table, CONTROL_START, &CONTROL, 0);
+    let wrong = byte(table, CONTROL_START) != CONTROL.id
+        || byte(table, CONTROL_START + VERSION_AT) != VERSION
+        || byte(table, CONTROL_START + INDEX_AT) != 0
+        || !is_control_length(control_length(table))
+        || control_end(table) > length(table);
     refuse_if(wrong, 9, CONTROL_START)?;
     check_flags(table, CONTROL_START, &CONTROL)?;
     refuse_if(word(table, EXTENSIONS) != 0, 11, EXTENSIONS)
 }
 
-/// 12, 13, 10, 19 of a structure that is present.
-fn check_structure(table: &[u8], slot: &Slot) -> Verdict {
-    let start = match start(table, slot) {
+/// 12, 13, 10, 19 of a structure with a named word, where it is present.
+fn check_named(table: &[u8], slot: &Slot) -> Verdict {
+    let start = match start(table, slot.word) {
         Some(start) => start,
         None => return Ok(()),
     };
-    let misplaced =
-        start % ALIGNMENT != 0 || start < FIRST_START || start + slot.kind.length > length(table);
+    let misplaced = is_start_wrong(table, start) || start + slot.kind.length > length(table);
     refuse_if(misplaced, 12, slot.word)?;
-    let wrong = !has_start_bytes(table, start, &slot.kind, slot.index);
+    let wrong = !is_like(table, start, &slot.kind) || byte(table, start + INDEX_AT) != slot.index;
     refuse_if(wrong, 13, start)?;
-    check_flags(table, start, &slot.kind)?;
-    if slot.kind.id == TARGET.id {
+    check_flags_and_chap(table, start, &slot.kind)
+}
+
+/// An extra word that is used: 12 for where its first six bytes stand, 13 for what they say, 12 for its
+/// end, 33, 34, then 10 and 19.
+fn check_extra(table: &[u8], at: u64) -> Verdict {
+    let start = match start(table, at) {
+        Some(start) => start,
+        None => return Ok(()),
+    };
+    let misplaced = is_start_wrong(table, start) || start + 6 > length(table);
+    refuse_if(misplaced, 12, at)?;
+    let kind = match extra_kind(byte(table, start)) {
+        Some(kind) => kind,
+        None => return refuse_if(true, 13, start),
+    };
+    let index = byte(table, start + INDEX_AT);
+    let wrong = !is_like(table, start, &kind) || index < FIRST_EXTRA_INDEX;
+    refuse_if(wrong, 13, start)?;
+    refuse_if(start + kind.length > length(table), 12, at)?;
+    let before = extra_words(table).into_iter().filter(|word| *word < at);
+    let earlier: Vec<u64> = before
+        .filter_map(|word| extra(table, word))
+        .filter(|found| found.kind == kind)
+        .map(|found| found.index)
+        .collect();
+    refuse_if(earlier.contains(&index), 33, at)?;
+    refuse_if(earlier.len() >= EXTRAS_OF_A_KIND, 34, at)?;
+    check_flags_and_chap(table, start, &kind)
+}
+
+/// 10, and of a target 19.
+fn check_flags_and_chap(table: &[u8], start: u64, kind: &Kind) -> Verdict {
+    check_flags(table, start, kind)?;
+    if kind.id == TARGET.id {
         let place = start + CHAP_TYPE_AT;
         refuse_if(byte(table, place) > LAST_CHAP_TYPE, 19, place)?;
     }
@@ -92,18 +132,21 @@ fn check_flags(table: &[u8], start: u64, kind: &Kind) -> Verdict {
     refuse_if(byte(table, place) & !kind.named_flags != 0, 10, place)
 }
 
-/// 14, for the earliest slot that shares a byte with one before it.
+/// 14, for the earliest Control word whose structure shares a byte with one of an earlier word.
 fn check_sharing(table: &[u8]) -> Verdict {
-    for later in 0..SLOTS.len() {
-        let shares = (0..later).any(|earlier| share_a_byte(table, earlier, later));
-        refuse_if(shares, 14, SLOTS[later].word)?;
+    let found = by_word(table);
+    for (i, later) in found.iter().enumerate() {
+        let shares = found[..i]
+            .iter()
+            .any(|earlier| share_a_byte(earlier, later));
+        refuse_if(shares, 14, later.word)?;
     }
     Ok(())
 }
 
 /// 15 to 18 of an entry that is present.
-fn check_entry(table: &[u8], entry: &Entry) -> Verdict {
-    let field = match start(table, &SLOTS[entry.slot]) {
+fn check_entry(table: &[u8], start: Option<u64>, heap: u64, entry: &Entry) -> Verdict {
+    let field = match start {
         Some(start) => start + entry.at,
         None => return Ok(()),
     };
@@ -112,7 +155,7 @@ fn check_entry(table: &[u8], entry: &Entry) -> Verdict {
         return Ok(());
     }
     let end = offset + size;
-    let outside = offset < heap_start(table) || end > length(table) || offset == 0;
+    let outside = offset < heap || end > length(table) || offset == 0;
     refuse_if(outside, 15, field)?;
     refuse_if(end >= length(table) || byte(table, end) != 0, 16, field)?;
     refuse_if(size > entry.longest, 17, field)?;
@@ -131,24 +174,27 @@ pub fn is_zero_after_first_zero(field: &[u8]) -> bool {
     }
 }
 
-/// ID, version, length and Index.
-fn has_start_bytes(table: &[u8], start: u64, kind: &Kind, index: u64) -> bool {
+/// Is a start no multiple of 8, or below Control's end?
+fn is_start_wrong(table: &[u8], start: u64) -> bool {
+    start % ALIGNMENT != 0 || start < control_end(table)
+}
+
+/// Does a structure of this kind stand there, by its ID, version and length?
+fn is_like(table: &[u8], start: u64, kind: &Kind) -> bool {
     byte(table, start) == kind.id
         && byte(table, start + VERSION_AT) == VERSION
         && word(table, start + LENGTH_AT) == kind.length
-        && byte(table, start + INDEX_AT) == index
 }
 
 /// Is there a byte that belongs to both structures?
-fn share_a_byte(table: &[u8], one: usize, other: usize) -> bool {
-    match (stretch(table, one), stretch(table, other)) {
+fn share_a_byte(one: &Found, other: &Found) -> bool {
+    match (stretch(one), stretch(other)) {
         (Some(one), Some(other)) => one.start.max(other.start) < one.end.min(other.end),
         _ => false,
     }
 }
 
 /// The bytes that a structure takes up; none where it is absent.
-fn stretch(table: &[u8], slot: usize) -> Option<std::ops::Range<u64>> {
-    let slot = &SLOTS[slot];
-    start(table, slot).map(|start| start..start + slot.kind.length)
+fn stretch(found: &Found) -> Option<std::ops::Range<u64>> {
+    found.start.map(|start| start..start + found.kind.length)
 }

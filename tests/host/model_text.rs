@@ -115,7 +115,7 @@ fn place(slot: usize, at: u64) -> Place {
         Some(entry) => Place::Entry(entry),
         None => Place::Byte {
             slot,
-            at: at as usize - bytes_of_fields(slot).start,
+            at: at as usize - bytes_of_fields(&SLOTS[slot].kind).start,
         },
     }
 }
@@ -166,7 +166,7 @@ impl Field {
 /// zero.
 fn structure_of(record: &mut Record, slot: usize) -> &mut Vec<u8> {
     record.structures[slot].get_or_insert_with(|| {
-        let range = bytes_of_fields(slot);
+        let range = bytes_of_fields(&SLOTS[slot].kind);
         let mut structure = vec![0; range.len()];
         structure[FLAGS_AT as usize - range.start] = USUAL_FLAGS;
         if SLOTS[slot].kind.id == TARGET.id {
@@ -216,6 +216,7 @@ pub fn empty_record() -> Record {
         oem_id: vec![0; OEM_ID.len()],
         oem_table_id: vec![0; OEM_TABLE_ID.len()],
         control_flags: 0,
+        extras: Vec::new(),
         structures: vec![None; SLOTS.len()],
         entries: vec![None; ENTRIES.len()],
     }

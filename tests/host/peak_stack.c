@@ -1,6 +1,7 @@
 /*
- * The peak stack of the exported calls, of the host name check and of the tail
- * test, on a painted stack of their own. Exits 1 above the limits: the firmware's stack is 4 KiB.
+ * The peak stack of the exported calls, of the readings, of the host name check and
+ * of the tail test, on a painted stack of their own; on tables and records without
+ * extras and with twelve. Exits 1 at 2 KiB: the firmware's stack is 4 KiB.
  *
  * What counts is the way from the caller's stack pointer down to the deepest
  * byte written, the call's return address included. A byte written with the
@@ -23,24 +24,15 @@ size_t test_common_tail(const uint8_t *a, size_t a_size, const uint8_t *b, size_
 enum {
     STACK_SIZE = 1 << 20,
     HEADROOM = 4096,
-    SCAN_LIMIT = 4096,
-    CHECK_LIMIT = 4096,
     HOST_NAME_LIMIT = 256,
     TAIL_LIMIT = 256,
     WINDOW_SIZE = IBFT_WINDOW_END - IBFT_WINDOW_START,
     LONG_NAME = 20001,
 };
 
-/* The largest table: every structure in the order of a build, and each string as
- * long as it may be. */
-enum {
-    INITIATOR = IBFT_FIRST_START,
-    NIC0 = 152,
-    NIC1 = 256,
-    TARGET0 = 360,
-    TARGET1 = 416,
-    HEAP = TARGET1 + sizeof(struct ibft_target),
-};
+/* Where the structures of the largest table start, without extras or with six of
+ * each kind: in the order of a build, each string as long as it may be. */
+static size_t initiator_start, nic_starts[ALL_NICS], target_starts[ALL_TARGETS], heap_start;
 
 static uint8_t stack[STACK_SIZE] __attribute__((aligned(4096)));
 static uint8_t memory[WINDOW_SIZE];
@@ -125,18 +117,26 @@ void measure(const char *what, struct call call, uint64_t answer, size_t limit)
     }
 }
 
+void expect_length(size_t length, size_t expected)
+{
+    if (length != expected) {
+        printf("peak stack: the largest table has %zu bytes and not %zu\n", length, expected);
+        exit(1);
+    }
+}
+
 static void measure_scan(const char *what, size_t size, uint64_t address, uint64_t answer)
 {
     struct call call = { .run = run_scan, .bytes = memory, .size = size, .address = address };
 
-    measure(what, call, answer, SCAN_LIMIT);
+    measure(what, call, answer, CALL_LIMIT);
 }
 
 static void measure_check(const char *what, size_t size, uint64_t answer)
 {
     struct call call = { .run = run_check, .bytes = memory, .size = size };
 
-    measure(what, call, answer, CHECK_LIMIT);
+    measure(what, call, answer, CALL_LIMIT);
 }
 
 static void measure_host_name(const char *what, size_t size)
@@ -197,17 +197,34 @@ static void measure_scans(void)
     measure_scan("scan, bytes lent from 0x7FFF8", 1000, start - 8, found(start + 16, 427));
 }
 
-static void lay_header(uint32_t length)
+/* Puts a structure of so many bytes behind `end`; its start goes into a Control word. */
+static size_t place(size_t word, size_t size, size_t *end)
 {
-    static const uint8_t control[] = { 1, 1, 18, 0, 0, 0, 0, 0, INITIATOR, 0, NIC0, 0,
-                                       TARGET0 & 255, TARGET0 >> 8, NIC1 & 255, NIC1 >> 8,
-                                       TARGET1 & 255, TARGET1 >> 8 };
+    uint16_t start = (uint16_t)((*end + 7) / 8 * 8);
+
+    memcpy(memory + word, &start, sizeof start);
+    *end = start + size;
+    return start;
+}
+
+/* Control, and where structures start: `extras` of each kind beside the named ones. The words of the
+ * extra NICs stand before those of the extra targets. */
+static void lay_control(size_t extras)
+{
+    const uint8_t control[] = { 1, 1, (uint8_t)(18 + 4 * extras), 0, 0, 0 };
+    size_t end = 66 + 4 * extras;
 
     memset(memory, 0, sizeof memory);
     memcpy(memory, "iBFT", 4);
-    memcpy(memory + 4, &length, sizeof length);
     memory[8] = 1;
     memcpy(memory + 48, control, sizeof control);
+    initiator_start = place(56, sizeof(struct ibft_initiator), &end);
+    for (size_t i = 0; i < 2 + extras; i++)
+        nic_starts[i] = place(i < 2 ? 58 + 4 * i : 66 + 2 * (i - 2), sizeof(struct ibft_nic), &end);
+    for (size_t i = 0; i < 2 + extras; i++)
+        target_starts[i] = place(i < 2 ? 60 + 4 * i : 66 + 2 * (extras + i - 2),
+                                 sizeof(struct ibft_target), &end);
+    heap_start = end;
 }
 
 static void lay_structure(size_t start, uint8_t id, uint16_t length, uint8_t index)
@@ -229,6 +246,12 @@ static void lay_entry(size_t field, uint16_t length, uint16_t *offset)
     *offset = (uint16_t)(*offset + length + 1);
 }
 
+static void lay_nic(size_t start, uint8_t index, uint16_t *offset)
+{
+    lay_structure(start, 3, sizeof(struct ibft_nic), index);
+    lay_entry(start + 98, IBFT_LONGEST_STRING, offset);
+}
+
 static void lay_target(size_t start, uint8_t index, uint16_t *offset)
 {
     lay_structure(start, 4, sizeof(struct ibft_target), index);
@@ -237,31 +260,39 @@ static void lay_target(size_t start, uint8_t index, uint16_t *offset)
         lay_entry(start + at, IBFT_LONGEST_STRING, offset);
 }
 
-/* Sets the checksum byte of the largest table. */
-static void mend_sum(void)
+/* Sets the checksum byte of a table of `length` bytes. */
+static void mend_sum(size_t length)
 {
     uint8_t sum = 0;
 
-    for (size_t i = 0; i < IBFT_LARGEST_LENGTH; i++)
+    for (size_t i = 0; i < length; i++)
         sum = (uint8_t)(sum + memory[i]);
     memory[9] = (uint8_t)(memory[9] - sum);
 }
 
-/* The largest table; each host name has 127 dots. */
-static void lay_largest_table(void)
+/* The largest table; each host name has 127 dots. An extra's Index leaves gaps. */
+size_t lay_largest_table(size_t extras)
 {
-    uint16_t offset = HEAP;
+    uint16_t offset;
+    uint32_t length;
 
-    lay_header(IBFT_LARGEST_LENGTH);
-    lay_structure(INITIATOR, 2, sizeof(struct ibft_initiator), 0);
-    lay_structure(NIC0, 3, sizeof(struct ibft_nic), 0);
-    lay_structure(NIC1, 3, sizeof(struct ibft_nic), 1);
-    lay_entry(INITIATOR + 70, IBFT_LONGEST_NAME, &offset);
-    lay_entry(NIC0 + 98, IBFT_LONGEST_STRING, &offset);
-    lay_entry(NIC1 + 98, IBFT_LONGEST_STRING, &offset);
-    lay_target(TARGET0, 0, &offset);
-    lay_target(TARGET1, 1, &offset);
-    mend_sum();
+    lay_control(extras);
+    offset = (uint16_t)heap_start;
+    lay_structure(initiator_start, 2, sizeof(struct ibft_initiator), 0);
+    lay_entry(initiator_start + 70, IBFT_LONGEST_NAME, &offset);
+    for (uint8_t i = 0; i < 2 + extras; i++)
+        lay_nic(nic_starts[i], i < 2 ? i : (uint8_t)(40 * i), &offset);
+    for (uint8_t i = 0; i < 2 + extras; i++)
+        lay_target(target_starts[i], i < 2 ? i : (uint8_t)(36 * i), &offset);
+    length = offset;
+    memcpy(memory + 4, &length, sizeof length);
+    mend_sum(length);
+    return length;
+}
+
+const uint8_t *table_bytes(void)
+{
+    return memory;
 }
 
 static uint64_t refused(uint64_t number, uint64_t place)
@@ -269,29 +300,45 @@ static uint64_t refused(uint64_t number, uint64_t place)
     return number | place << 8;
 }
 
+/* The checks of the largest table: `what` says of which. */
+static void measure_checks_of(const char *what, size_t extras, size_t length)
+{
+    const size_t last_nic = 1 + extras, last_target = 1 + extras;
+    const size_t last_letter = heap_start + IBFT_LONGEST_NAME
+        + (last_nic + 1) * (IBFT_LONGEST_STRING + 1) - 1;
+    const size_t last_word = extras == 0 ? 64 : 64 + 4 * extras;
+    char name_of[96];
+
+#define MEASURE(which, size, answer) \
+    (snprintf(name_of, sizeof name_of, "check, %s%s", what, which), \
+     measure_check(name_of, size, answer))
+    MEASURE(", host names with 127 dots", length, 0);
+    MEASURE(", more bytes lent", WINDOW_SIZE, 0);
+    memory[last_letter] = ' ';
+    MEASURE(", wrong sum", length, refused(IBFT_REFUSED_SUM, 9));
+    mend_sum(length);
+    MEASURE(", refused at the last letter of a host name", length,
+            refused(IBFT_REFUSED_HOST_NAME, nic_starts[last_nic] + 98));
+    lay_largest_table(extras);
+    memory[length - 1] = 'a';
+    mend_sum(length);
+    MEASURE(", refused at the last byte", length,
+            refused(IBFT_REFUSED_ENTRY_END, target_starts[last_target] + 50));
+    memory[last_word] = (uint8_t)initiator_start;
+    memory[last_word + 1] = 0;
+    mend_sum(length);
+    MEASURE(", refused at the last word", length,
+            refused(IBFT_REFUSED_STRUCTURE, initiator_start));
+#undef MEASURE
+}
+
 static void measure_checks(void)
 {
-    size_t last_letter = HEAP + IBFT_LONGEST_NAME + 1 + 2 * IBFT_LONGEST_STRING;
-
     measure_check("check, nothing lent", 0, IBFT_REFUSED_FEW_BYTES);
-    lay_largest_table();
-    measure_check("check, largest table, host names with 127 dots", IBFT_LARGEST_LENGTH, 0);
-    measure_check("check, more bytes lent", WINDOW_SIZE, 0);
-    memory[last_letter] = ' ';
-    measure_check("check, wrong sum", IBFT_LARGEST_LENGTH, refused(IBFT_REFUSED_SUM, 9));
-    mend_sum();
-    measure_check("check, refused at the last letter of a host name", IBFT_LARGEST_LENGTH,
-                  refused(IBFT_REFUSED_HOST_NAME, NIC1 + 98));
-    lay_largest_table();
-    memory[IBFT_LARGEST_LENGTH - 1] = 'a';
-    mend_sum();
-    measure_check("check, refused at the last byte", IBFT_LARGEST_LENGTH,
-                  refused(IBFT_REFUSED_ENTRY_END, TARGET1 + 50));
-    memory[62] = NIC0;
-    memory[63] = 0;
-    mend_sum();
-    measure_check("check, refused at a structure", IBFT_LARGEST_LENGTH,
-                  refused(IBFT_REFUSED_STRUCTURE, NIC0));
+    expect_length(lay_largest_table(0), BASE_LARGEST);
+    measure_checks_of("largest table without extras", 0, BASE_LARGEST);
+    expect_length(lay_largest_table(EXTRAS), LARGEST);
+    measure_checks_of("largest table, twelve extras", EXTRAS, LARGEST);
 }
 
 int main(void)
@@ -301,6 +348,7 @@ int main(void)
     measure_scans();
     measure_checks();
     measure_builds();
+    measure_readings();
     measure_host_name("host name, 255 bytes with 127 dots", 255);
     measure_host_name("host name, 20001 bytes with 10000 dots", sizeof name);
     measure_tail("tail test, 253 bytes that agree", 255);

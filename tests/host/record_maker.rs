@@ -1,5 +1,6 @@
 //! Records for the tests, laid as C gives them to a build. Nothing here keeps a caller from giving
-//! what is refused; that is what damage is made of.
+//! what is refused; that is what damage is made of. Structures are known by the number of their slot,
+//! strings by that of their entry.
 
 use crate::model_layout::*;
 use crate::model_record_range::*;
@@ -19,7 +20,7 @@ pub struct Given {
 impl Given {
     /// Nothing present. The record's other bytes are those of `filler`.
     pub fn new(filler: &[u8]) -> Given {
-        let mut record = filler.to_vec();
+        let mut record = filler[..BASE_SIZE].to_vec();
         record[..IMAGES[0] as usize].fill(0);
         Given {
             record,
@@ -27,6 +28,34 @@ impl Given {
             strings_are_the_record: false,
             room_size: None,
         }
+    }
+
+    /// The same with so many extras, none of them with a string. The filler has as many bytes as that
+    /// takes; what is given for Index, flags and CHAP type is still to be set.
+    pub fn with_extras(filler: &[u8], nics: usize, targets: usize) -> Given {
+        let mut given = Given::new(filler);
+        given.record = filler[..range_size(nics, targets)].to_vec();
+        given.record[..IMAGES[0] as usize].fill(0);
+        given.record[EXTRA_NICS] = nics as u8;
+        given.record[EXTRA_TARGETS] = targets as u8;
+        for entry in entries_given(&given.record) {
+            given.record[entry.mark] = 0;
+        }
+        given
+    }
+
+    /// The slots and the entries as the range gives them.
+    pub fn slots(&self) -> Vec<GivenSlot> {
+        slots_given(&self.record)
+    }
+
+    pub fn entries(&self) -> Vec<GivenEntry> {
+        entries_given(&self.record)
+    }
+
+    /// The slots of extras.
+    pub fn extra_slots(&self) -> Vec<usize> {
+        (SLOTS.len()..self.slots().len()).collect()
     }
 
     pub fn into_room(mut self, size: usize) -> Given {
@@ -57,7 +86,7 @@ impl Given {
     }
 
     pub fn has_slot(&self, slot: usize) -> bool {
-        is_slot_given(&self.record, slot)
+        self.slots()[slot].is_present
     }
 
     pub fn set_control_flags(&mut self, flags: u8) {
@@ -66,7 +95,12 @@ impl Given {
 
     /// Sets a byte of a slot's image.
     pub fn set(&mut self, slot: usize, at: u64, byte: u8) {
-        self.record[(IMAGES[slot] + at) as usize] = byte;
+        let image = self.slots()[slot].image;
+        self.record[(image + at) as usize] = byte;
+    }
+
+    pub fn set_index(&mut self, slot: usize, index: u8) {
+        self.set(slot, INDEX_AT, index);
     }
 
     pub fn set_flags(&mut self, slot: usize, flags: u8) {
@@ -76,33 +110,36 @@ impl Given {
     // ---- Strings ----
 
     pub fn mark_entry(&mut self, entry: usize, mark: u8) {
-        self.record[ENTRY_MARKS.start + entry] = mark;
+        let at = self.entries()[entry].mark;
+        self.record[at] = mark;
     }
 
     /// The entries that are part of the record.
     pub fn present_entries(&self) -> Vec<usize> {
-        (0..ENTRIES.len())
-            .filter(|entry| is_entry_given(&self.record, *entry))
+        let entries = self.entries();
+        (0..entries.len())
+            .filter(|entry| entries[*entry].is_present)
             .collect()
     }
 
     /// The entries whose structure is present.
     pub fn owned_entries(&self) -> Vec<usize> {
-        (0..ENTRIES.len())
-            .filter(|entry| self.has_slot(ENTRIES[*entry].slot))
+        let (slots, entries) = (self.slots(), self.entries());
+        (0..entries.len())
+            .filter(|entry| slots[entries[*entry].slot].is_present)
             .collect()
     }
 
     /// Sets the two words of an entry.
     pub fn point(&mut self, entry: usize, start: usize, length: usize) {
-        let at = given_words_at(entry) as usize;
+        let at = self.entries()[entry].words as usize;
         self.record[at..at + 2].copy_from_slice(&(length as u16).to_le_bytes());
         self.record[at + 2..at + 4].copy_from_slice(&(start as u16).to_le_bytes());
     }
 
     /// An entry's length, and its start in the strings.
     pub fn words(&self, entry: usize) -> (usize, usize) {
-        let (length, start) = given_words(&self.record, entry);
+        let (length, start) = given_words(&self.record, &self.entries()[entry]);
         (length as usize, start as usize)
     }
 
@@ -119,15 +156,35 @@ impl Given {
 
 /// Structures and strings, every flag and field zero.
 pub fn record_with(slots: &[usize], texts: &[(usize, &[u8])]) -> Given {
-    let mut given = Given::new(&[0; RECORD_SIZE]);
+    record_with_extras(slots, &[], &[], texts)
+}
+
+/// The same, and extra NICs and targets with these Index values; the range has 419 bytes without any.
+pub fn record_with_extras(
+    slots: &[usize],
+    nics: &[u8],
+    targets: &[u8],
+    texts: &[(usize, &[u8])],
+) -> Given {
+    let filler = vec![0; range_size(nics.len(), targets.len())];
+    let mut given = match nics.len() + targets.len() {
+        0 => Given::new(&filler),
+        _ => Given::with_extras(&filler, nics.len(), targets.len()),
+    };
     for slot in slots {
         given.mark_slot(*slot, 1);
+    }
+    for (i, index) in nics.iter().chain(targets).enumerate() {
+        given.set_index(SLOTS.len() + i, *index);
     }
     for (entry, text) in texts {
         given.give(*entry, text);
     }
     given
 }
+
+/// Six Index values, sparse up to the greatest.
+pub const SIX: [u8; 6] = [2, 5, 9, 100, 254, 255];
 
 /// Case 5 of RULES.md: Target 0 alone, CHAP name `depot7`, and its last byte as reverse name.
 pub fn case_5() -> Given {
@@ -154,16 +211,50 @@ pub fn common_record() -> Given {
     given
 }
 
-/// Thirteen strings, each as long as it may be and a host name with a dot at every other byte, and all
-/// of them equal from the back but for one byte, at the even place that is named for the longest size.
-/// None is a tail. The table has 3,702 bytes, the most there is.
-fn alike_record(differs_at: impl Fn(usize) -> usize) -> Given {
-    let mut given = record_with(&ALL_SLOTS, &[]);
-    for (i, entry) in ENTRIES.iter().enumerate() {
-        let longest = entry.longest as usize;
+/// Each string as long as it may be and a host name with a dot at every other byte, and all of them equal
+/// from the back but for one byte, at the even place that is named for the longest size. None is a tail.
+fn alike(mut given: Given, differs_at: impl Fn(usize) -> usize) -> Given {
+    for (i, entry) in given.entries().iter().enumerate() {
+        let longest = entry.text.longest as usize;
         let mut text = dots_between((longest + 1) / 2, b'a');
-        text[differs_at(longest)] = b'b' + i as u8;
+        text[differs_at(longest)] = if i < 25 {
+            b'b' + i as u8
+        } else {
+            b'A' + (i - 25) as u8
+        };
         given.give(i, &text);
+    }
+    given
+}
+
+/// Thirteen such strings. The table has 3,702 bytes, the most there is without extras.
+fn alike_record(differs_at: impl Fn(usize) -> usize) -> Given {
+    alike(record_with(&ALL_SLOTS, &[]), differs_at)
+}
+
+/// Six extra NICs and six extra targets, and 49 such strings, the first byte of each another: the table
+/// has 13,710 bytes, the most there is.
+pub fn worst_record_with_extras() -> Given {
+    alike(record_with_extras(&ALL_SLOTS, &SIX, &SIX, &[]), |_| 0)
+}
+
+/// A record of the common one's kind with so many targets, two to eight, and as many NICs: of each NIC a
+/// host name and of each target its name and CHAP name, one the tail of another.
+pub fn record_with_targets(targets: usize) -> Given {
+    let extras = &SIX[..targets - 2];
+    let mut given = record_with_extras(&ALL_SLOTS, extras, extras, &[]);
+    for (number, entry) in given.entries().iter().enumerate() {
+        let own = format!("{:02}.depot.example", number);
+        let text = match (entry.text.is_host_name, entry.text.at) {
+            (true, _) => format!("cabinet-{}", own),
+            (false, 34 | 70) => format!("iqn.2026-11.example.depot:volume-{}", own),
+            (false, 38) => format!("volume-{:02}.depot.example", number - 1),
+            _ => continue,
+        };
+        given.give(number, text.as_bytes());
+    }
+    for slot in 0..given.slots().len() {
+        given.set_flags(slot, VALID as u8);
     }
     given
 }

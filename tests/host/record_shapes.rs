@@ -8,16 +8,19 @@ use crate::model_layout::*;
 use crate::model_record_range::*;
 use crate::record_damage::{self as damage, Damage};
 use crate::record_maker::*;
+use crate::record_shapes_extras::EXTRA_SHAPES;
 use crate::seeded::Seeded;
 use crate::table_maker::dots_between;
 
 /// A name, how many inputs, and how number `n` of them is made.
-type Shape = (&'static str, usize, fn(usize, &mut Seeded) -> Given);
+pub type Shape = (&'static str, usize, fn(usize, &mut Seeded) -> Given);
 
 const SHAPES: &[Shape] = &[
     ("good records", 50_000, |_, seeded| good_record(seeded)),
     ("thirteen strings", 12_000, thirteen),
-    ("short strings", 12_000, |_, seeded| whole_record(seeded, 3)),
+    ("short strings", 12_000, |_, seeded| {
+        whole_record(seeded, None, 3)
+    }),
     ("strings of one letter", 6_000, one_letter),
     ("strings empty or missing", 4_000, empty_or_missing),
     ("strings as long as they may be", 1_500, longest_strings),
@@ -25,7 +28,7 @@ const SHAPES: &[Shape] = &[
     ("strings about 64 KiB on", 400, about_64_kib),
     ("each room of four records", EACH_ROOM, each_room),
     ("each size of the record range", 901, each_size),
-    ("each byte of a full record", RECORD_SIZE * 256, each_byte),
+    ("each byte of a full record", BASE_SIZE * 256, each_byte),
     ("each value of each mark", 18 * 256, each_mark),
     ("each byte of flags", 6 * 256, each_flags),
     ("each CHAP type", 4 * 256, each_chap_type),
@@ -66,7 +69,7 @@ pub struct BuildInput {
 
 /// Shows every input to `agrees`, until one does not.
 pub fn all_agree(mut agrees: impl FnMut(BuildInput) -> bool) -> bool {
-    for (i, (shape, inputs, make)) in SHAPES.iter().enumerate() {
+    for (i, (shape, inputs, make)) in SHAPES.iter().chain(EXTRA_SHAPES).enumerate() {
         for n in 0..*inputs {
             let seed = 0xB000_0000_0000 + ((i as u64) << 32) + n as u64;
             let mut seeded = Seeded::new(seed);
@@ -97,11 +100,20 @@ fn room_size(seeded: &mut Seeded, given: &Given) -> usize {
             let least = table.len();
             let less = seeded.between(0, least - 1);
             let more = least + seeded.between(1, 90);
-            seeded.one_of(&[least, least, least, least - 1, less, least + 1, more, 4_096])
+            seeded.one_of(&[
+                least,
+                least,
+                least,
+                least - 1,
+                less,
+                least + 1,
+                more,
+                16_384,
+            ])
         }
         Err(_) => {
             let any = seeded.between(0, 700);
-            seeded.one_of(&[0, any, any, 4_096])
+            seeded.one_of(&[0, any, any, 16_384])
         }
     }
 }
@@ -110,18 +122,23 @@ fn room_size(seeded: &mut Seeded, given: &Given) -> usize {
 
 fn thirteen(_: usize, seeded: &mut Seeded) -> Given {
     let longest = seeded.one_of(&[1, 2, 6, 40, 255]);
-    whole_record(seeded, longest)
+    whole_record(seeded, None, longest)
+}
+
+fn one_letter(_: usize, seeded: &mut Seeded) -> Given {
+    let given = record_without_strings(seeded, None, 2);
+    with_one_letter(seeded, given)
 }
 
 /// Each string is a tail of every longer one, host names that are too long for a label apart.
-fn one_letter(_: usize, seeded: &mut Seeded) -> Given {
-    let mut given = record_without_strings(seeded, 2);
+pub fn with_one_letter(seeded: &mut Seeded, mut given: Given) -> Given {
+    let entries = given.entries();
     let longest = seeded.one_of(&[1, 3, 8, 63, 223]);
     let mut texts = Vec::new();
     for entry in given.owned_entries() {
-        let least = usize::from(ENTRIES[entry].is_host_name);
-        let size = seeded.between(least, longest);
-        if !(ENTRIES[entry].is_host_name && size > 63 || seeded.once_in(4)) {
+        let is_host_name = entries[entry].text.is_host_name;
+        let size = seeded.between(usize::from(is_host_name), longest);
+        if !(is_host_name && size > 63 || seeded.once_in(4)) {
             texts.push((entry, vec![b'x'; size]));
         }
     }
@@ -130,14 +147,19 @@ fn one_letter(_: usize, seeded: &mut Seeded) -> Given {
 }
 
 fn empty_or_missing(_: usize, seeded: &mut Seeded) -> Given {
-    let mut given = record_without_strings(seeded, 2);
+    let given = record_without_strings(seeded, None, 2);
+    with_empty_or_missing(seeded, given)
+}
+
+pub fn with_empty_or_missing(seeded: &mut Seeded, mut given: Given) -> Given {
+    let entries = given.entries();
     if seeded.once_in(2) {
         let strings = any_bytes(seeded, 30);
         given.strings_mut().extend(strings);
     }
     let mut texts = Vec::new();
     for entry in given.owned_entries() {
-        if !ENTRIES[entry].is_host_name && seeded.once_in(2) {
+        if !entries[entry].text.is_host_name && seeded.once_in(2) {
             texts.push((entry, Vec::new()));
         }
     }
@@ -148,18 +170,22 @@ fn empty_or_missing(_: usize, seeded: &mut Seeded) -> Given {
     given
 }
 
-/// Thirteen strings with no byte in common but by chance, each as long as it may be or nearly so.
 fn longest_strings(n: usize, seeded: &mut Seeded) -> Given {
-    let mut given = record_without_strings(seeded, 1);
+    let given = record_without_strings(seeded, None, 1);
+    with_longest_strings(n, seeded, given)
+}
+
+/// Strings with no byte in common but by chance, each as long as it may be or nearly so.
+pub fn with_longest_strings(n: usize, seeded: &mut Seeded, mut given: Given) -> Given {
     let mut texts = Vec::new();
-    for (number, entry) in ENTRIES.iter().enumerate() {
+    for (number, entry) in given.entries().iter().enumerate() {
         let mut text = dots_between(128, b'a');
         for at in (0..text.len()).step_by(2) {
             text[at] = seeded.one_of(b"abyz09");
         }
         let less = if n % 2 == 0 { 0 } else { seeded.between(0, 2) };
         // An even number of bytes more than the longest keeps a letter in front.
-        text.drain(..text.len() - entry.longest as usize + 2 * less);
+        text.drain(..text.len() - entry.text.longest as usize + 2 * less);
         texts.push((number, text));
     }
     scatter(seeded, &mut given, texts);
@@ -168,7 +194,7 @@ fn longest_strings(n: usize, seeded: &mut Seeded) -> Given {
 
 /// NIC 1 and Target 1 are absent, and the strings stand in their images.
 fn in_the_record(_: usize, seeded: &mut Seeded) -> Given {
-    let mut given = record_without_strings(seeded, 1);
+    let mut given = record_without_strings(seeded, None, 1);
     given.strings_are_the_record = true;
     for slot in [3, 4] {
         given.mark_slot(slot, 0);
@@ -178,8 +204,8 @@ fn in_the_record(_: usize, seeded: &mut Seeded) -> Given {
         *byte = seeded.one_of(b"abc");
     }
     for entry in given.owned_entries() {
-        let start = seeded.between(from, RECORD_SIZE);
-        let length = seeded.between(0, (RECORD_SIZE - start).min(63));
+        let start = seeded.between(from, BASE_SIZE);
+        let length = seeded.between(0, (BASE_SIZE - start).min(63));
         if length > 0 && seeded.once_in(2) {
             given.mark_entry(entry, 1);
             given.point(entry, start, length);
@@ -190,7 +216,7 @@ fn in_the_record(_: usize, seeded: &mut Seeded) -> Given {
 
 /// Strings that start below 64 KiB and end past it, some past the range.
 fn about_64_kib(_: usize, seeded: &mut Seeded) -> Given {
-    let mut given = record_without_strings(seeded, 1);
+    let mut given = record_without_strings(seeded, None, 1);
     let size = 0x10000 + seeded.one_of(&[0, 1, 2, 63, 255, 70_000]) - seeded.between(0, 2);
     given.strings_mut().resize(size, b'a');
     for entry in given.owned_entries() {
@@ -281,7 +307,7 @@ fn oem_zeros(n: usize, seeded: &mut Seeded) -> Given {
 
 /// Each entry alone with lengths about 0, 63, 223, 255 and more, where the range holds them.
 fn each_length(n: usize, seeded: &mut Seeded) -> Given {
-    let mut given = record_without_strings(seeded, 1);
+    let mut given = record_without_strings(seeded, None, 1);
     let (entry, step) = (n / 90, n % 90);
     let size = [0, 62, 220, 250, 510][step % 5] + step / 5;
     let text: Vec<u8> = match ENTRIES[entry].is_host_name && step % 2 == 0 {
@@ -294,7 +320,7 @@ fn each_length(n: usize, seeded: &mut Seeded) -> Given {
 
 /// Starts and lengths about the end of a range of six bytes.
 fn at_the_end(n: usize, seeded: &mut Seeded) -> Given {
-    let mut given = record_without_strings(seeded, 1);
+    let mut given = record_without_strings(seeded, None, 1);
     given.give(0, b"depot7");
     given.mark_entry(0, seeded.between(0, 1) as u8);
     let (entry, start, length) = (n / 169, n / 13 % 13, n % 13);

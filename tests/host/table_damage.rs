@@ -2,9 +2,10 @@
 //! sum is mended afterwards by who calls them, so that the fault itself is met.
 
 use crate::compare_host_name::any_name;
+use crate::good_tables::shuffle;
 use crate::model_layout::*;
 use crate::seeded::Seeded;
-use crate::table_maker::Table;
+use crate::table_maker::{word_at, Table};
 
 pub type Damage = fn(&mut Seeded, &mut Table);
 
@@ -32,23 +33,55 @@ pub const DAMAGES: &[Damage] = &[
     missing_or_empty,
 ];
 
+/// What else can be wrong with a table that has extra words.
+pub const EXTRA_DAMAGES: &[Damage] = &[
+    control_length,
+    extra_word,
+    extra_word_elsewhere,
+    extra_start_bytes,
+    extra_index,
+    length_in_a_structure,
+    words_shuffled,
+    word_unused,
+];
+
 pub fn any_damage(seeded: &mut Seeded, table: &mut Table) {
     let damage = seeded.one_of(DAMAGES);
     damage(seeded, table);
 }
 
-fn any_present_slot(seeded: &mut Seeded, table: &Table) -> Option<usize> {
-    match table.present_slots() {
-        slots if slots.is_empty() => None,
-        slots => Some(seeded.one_of(&slots)),
+/// Any of the faults, those of extra words as often as all others.
+pub fn any_damage_with_extras(seeded: &mut Seeded, table: &mut Table) {
+    let of_extras = seeded.one_of(EXTRA_DAMAGES);
+    let other = seeded.one_of(DAMAGES);
+    let damage = seeded.one_of(&[of_extras, other]);
+    damage(seeded, table);
+}
+
+fn any_of<T: Copy>(seeded: &mut Seeded, choices: &[T]) -> Option<T> {
+    match choices.len() {
+        0 => None,
+        _ => Some(seeded.one_of(choices)),
     }
 }
 
+fn any_used_word(seeded: &mut Seeded, table: &Table) -> Option<usize> {
+    any_of(seeded, &table.used_words())
+}
+
+fn any_extra_word(seeded: &mut Seeded, table: &Table) -> Option<usize> {
+    any_of(seeded, &table.extra_words())
+}
+
+/// An extra word that leads to a structure.
+fn any_used_extra_word(seeded: &mut Seeded, table: &Table) -> Option<usize> {
+    let mut words = table.extra_words();
+    words.retain(|word| table.start(*word) != 0);
+    any_of(seeded, &words)
+}
+
 fn any_owned_entry(seeded: &mut Seeded, table: &Table) -> Option<usize> {
-    match table.owned_entries() {
-        entries if entries.is_empty() => None,
-        entries => Some(seeded.one_of(&entries)),
-    }
+    any_of(seeded, &table.owned_entries())
 }
 
 /// Up to `most` more or less.
@@ -112,18 +145,124 @@ pub fn extensions(seeded: &mut Seeded, table: &mut Table) {
 
 /// A start anywhere, whatever stands there.
 pub fn control_word(seeded: &mut Seeded, table: &mut Table) {
-    let slot = seeded.between(0, SLOTS.len() - 1);
-    let start = any_start(seeded, table, slot);
-    table.set_start(slot, start);
+    let word = seeded.between(0, SLOTS.len() - 1);
+    let start = any_start(seeded, table, word);
+    table.set_start(word, start);
+}
+
+/// A Control Length about the limits, odd ones too. What stands behind Control becomes words or words
+/// stand behind it; starts below its end are a fault then.
+pub fn control_length(seeded: &mut Seeded, table: &mut Table) {
+    let about = seeded.between(16, 44);
+    let there = control_length_of(table);
+    let far = seeded.one_of(&[0, 1, 6, 17, 43, 44, 46, 255, 256 + 18, 0xFFFF]);
+    let near = near(seeded, there, 3);
+    let length = seeded.one_of(&[about, about, near, near, far]);
+    table.set_control_length(length);
+}
+
+fn control_length_of(table: &Table) -> usize {
+    table.word((CONTROL_START + LENGTH_AT) as usize)
+}
+
+// ---- Extra words ----
+
+/// A start anywhere in an extra word.
+pub fn extra_word(seeded: &mut Seeded, table: &mut Table) {
+    if let Some(word) = any_extra_word(seeded, table) {
+        let near_control = near(seeded, CONTROL_START as usize + control_length_of(table), 9);
+        let any = any_start(seeded, table, word);
+        let near_end = near(seeded, table.length().min(0xFFFF), 8);
+        let start = seeded.one_of(&[
+            any,
+            any,
+            near_control,
+            near_control / 8 * 8,
+            near_end / 8 * 8,
+        ]);
+        table.set_start(word, start);
+    }
+}
+
+/// An extra word to where another word leads, to Control, or to a place with six bytes of a structure of
+/// some kind.
+pub fn extra_word_elsewhere(seeded: &mut Seeded, table: &mut Table) {
+    if let Some(word) = any_extra_word(seeded, table) {
+        let there = any_used_word(seeded, table).map_or(0, |other| table.start(other));
+        let aligned = 8 * seeded.between(0, table.length().min(0xFFFF) / 8);
+        match seeded.between(0, 3) {
+            0 | 1 => table.set_start(word, there),
+            2 => table.set_start(word, CONTROL_START as usize),
+            _ => {
+                let kind = seeded.one_of(&[CONTROL, INITIATOR, NIC, TARGET]);
+                let index = seeded.one_of(&[0, 1, 2, 9, 255]);
+                table.put_extra(word, &kind, index, aligned);
+            }
+        }
+    }
+}
+
+/// A byte of an extra's ID, version, length or Index.
+pub fn extra_start_bytes(seeded: &mut Seeded, table: &mut Table) {
+    if let Some(word) = any_used_extra_word(seeded, table) {
+        start_bytes(seeded, table, table.start(word));
+    }
+}
+
+/// An Index below 2, that of another extra, or any.
+pub fn extra_index(seeded: &mut Seeded, table: &mut Table) {
+    let one = any_used_extra_word(seeded, table);
+    let other = any_used_extra_word(seeded, table);
+    if let (Some(one), Some(other)) = (one, other) {
+        let at = |word: usize| table.start(word) + INDEX_AT as usize;
+        let of_other = table.bytes.get(at(other)).copied().unwrap_or(0);
+        let any = seeded.byte();
+        let index = seeded.one_of(&[0, 1, of_other, of_other, any]);
+        table.write(at(one), &[index]);
+    }
+}
+
+/// Length ends in a structure or just behind it.
+pub fn length_in_a_structure(seeded: &mut Seeded, table: &mut Table) {
+    let last = table
+        .used_words()
+        .into_iter()
+        .max_by_key(|word| table.start(*word));
+    let any = any_used_word(seeded, table);
+    if let (Some(last), Some(any)) = (last, any) {
+        let word = seeded.one_of(&[last, last, any]);
+        let size = table.kind(word).length as usize;
+        let inside = seeded.between(0, size);
+        let length = table.start(word) + seeded.one_of(&[inside, 5, 6, 7, size - 1, size]);
+        table.set_length(length as u32);
+    }
+}
+
+/// The extra words in another order, which is no fault.
+pub fn words_shuffled(seeded: &mut Seeded, table: &mut Table) {
+    let words = table.extra_words();
+    let mut starts: Vec<usize> = words.iter().map(|word| table.start(*word)).collect();
+    shuffle(seeded, &mut starts);
+    for (word, start) in words.iter().zip(starts) {
+        table.write_word(word_at(*word), start);
+    }
+}
+
+/// A word of 0: the structure is no part of the table any more, which is no fault but for strings that
+/// stood behind it.
+pub fn word_unused(seeded: &mut Seeded, table: &mut Table) {
+    if let Some(word) = any_used_word(seeded, table) {
+        table.set_start(word, 0);
+    }
 }
 
 // ---- Structures ----
 
-fn any_start(seeded: &mut Seeded, table: &Table, slot: usize) -> usize {
+fn any_start(seeded: &mut Seeded, table: &Table, word: usize) -> usize {
     let length = table.length().min(0xFFFF);
-    let last = length.saturating_sub(SLOTS[slot].kind.length as usize);
+    let last = length.saturating_sub(table.kind(word).length as usize);
     let near_last = near(seeded, last, 9);
-    let near_there = near(seeded, table.start(slot), 9);
+    let near_there = near(seeded, table.start(word), 9);
     let aligned = 8 * seeded.between(0, length / 8);
     let any = seeded.between(0, 0xFFFF);
     let low = seeded.between(0, 80);
@@ -142,56 +281,54 @@ fn start_bytes(seeded: &mut Seeded, table: &mut Table, start: usize) {
 }
 
 pub fn structure_start_bytes(seeded: &mut Seeded, table: &mut Table) {
-    if let Some(slot) = any_present_slot(seeded, table) {
-        start_bytes(seeded, table, table.start(slot));
+    if let Some(word) = any_used_word(seeded, table) {
+        start_bytes(seeded, table, table.start(word));
     }
 }
 
 pub fn structure_flags(seeded: &mut Seeded, table: &mut Table) {
-    if let Some(slot) = any_present_slot(seeded, table) {
+    if let Some(word) = any_used_word(seeded, table) {
         let one_bit = 1 << seeded.between(0, 7);
         let any = seeded.byte();
-        table.set_flags(slot, seeded.one_of(&[one_bit, any]));
+        table.set_flags(word, seeded.one_of(&[one_bit, any]));
     }
 }
 
 pub fn chap_type(seeded: &mut Seeded, table: &mut Table) {
-    let slot = seeded.one_of(&[2, 4]);
-    if table.start(slot) != 0 {
+    let mut targets = table.used_words();
+    targets.retain(|word| table.kind(*word) == TARGET);
+    if let Some(word) = any_of(seeded, &targets) {
         let any = seeded.byte();
         let chap_type = seeded.one_of(&[0, 1, 2, 3, 4, 255, any]);
-        table.write(table.start(slot) + CHAP_TYPE_AT as usize, &[chap_type]);
+        table.write(table.start(word) + CHAP_TYPE_AT as usize, &[chap_type]);
     }
 }
 
 /// Takes a structure to another place, its bytes with it.
 pub fn structure_moved(seeded: &mut Seeded, table: &mut Table) {
-    if let Some(slot) = any_present_slot(seeded, table) {
-        let to = any_start(seeded, table, slot);
-        move_structure(table, slot, to);
+    if let Some(word) = any_used_word(seeded, table) {
+        let to = any_start(seeded, table, word);
+        move_structure(table, word, to);
     }
 }
 
 /// Takes a structure to a place that another takes up, or just beside.
 pub fn structure_onto_another(seeded: &mut Seeded, table: &mut Table) {
-    if let (Some(one), Some(other)) = (
-        any_present_slot(seeded, table),
-        any_present_slot(seeded, table),
-    ) {
+    if let (Some(one), Some(other)) = (any_used_word(seeded, table), any_used_word(seeded, table)) {
         let steps = seeded.between(0, 28) as isize - 14;
         let to = table.start(other) as isize / 8 * 8 + 8 * steps;
         move_structure(table, one, to.max(0) as usize);
     }
 }
 
-pub fn move_structure(table: &mut Table, slot: usize, to: usize) {
-    let from = table.start(slot);
-    let end = from + SLOTS[slot].kind.length as usize;
+pub fn move_structure(table: &mut Table, word: usize, to: usize) {
+    let from = table.start(word);
+    let end = from + table.kind(word).length as usize;
     if let Some(image) = table.bytes.get(from..end) {
         let image = image.to_vec();
         table.write(to, &image);
     }
-    table.set_start(slot, to);
+    table.set_start(word, to);
 }
 
 // ---- Strings ----
@@ -257,11 +394,15 @@ fn any_present_entry(seeded: &mut Seeded, table: &Table) -> Option<usize> {
 /// A string at the limit or past it, closed as it should be or not.
 pub fn entry_too_long(seeded: &mut Seeded, table: &mut Table) {
     if let Some(entry) = any_owned_entry(seeded, table) {
-        let longest = ENTRIES[entry].longest as usize;
-        let size = near(seeded, longest, 2);
+        let Entry {
+            longest,
+            is_host_name,
+            ..
+        } = table.entries()[entry];
+        let size = near(seeded, longest as usize, 2);
         let size = seeded.one_of(&[size, size, 256, 300]);
         let mut text = vec![b'a'; size];
-        if ENTRIES[entry].is_host_name {
+        if is_host_name {
             text.chunks_mut(64).for_each(|label| label[0] = b'.');
             text[0] = b'a';
         }
@@ -275,8 +416,10 @@ pub fn entry_too_long(seeded: &mut Seeded, table: &mut Table) {
 
 /// A host name of any kind, good or not.
 pub fn host_name(seeded: &mut Seeded, table: &mut Table) {
-    let entry = seeded.one_of(&[1, 7]);
-    if table.entry_field(entry).is_some() {
+    let entries = table.entries();
+    let mut hosts = table.owned_entries();
+    hosts.retain(|entry| entries[*entry].is_host_name);
+    if let Some(entry) = any_of(seeded, &hosts) {
         let name = any_name(seeded);
         table.append_text(entry, &name);
     }

@@ -1,10 +1,22 @@
 //! Tables for the tests, laid as RULES.md has them: structures at any places, strings anywhere.
 //! Nothing here keeps a caller from laying a table wrongly; that is what damage is made of.
+//!
+//! A structure is known by the number of its Control word: words 0 to 4 are the named ones and have the
+//! numbers of their slots, extra words go on from 5. A string is known by the number of its entry.
 
 use crate::model_layout::*;
 
-/// The order in which a build lays the slots.
+/// The order in which a build lays the named slots.
 const BUILT_ORDER: [usize; 5] = [0, 1, 3, 2, 4];
+
+/// The number of the first extra word, and how many there can be in all.
+pub const FIRST_EXTRA: usize = 5;
+pub const ALL_WORDS: usize = 17;
+
+/// Where a Control word stands.
+pub fn word_at(word: usize) -> usize {
+    SLOTS[0].word as usize + 2 * word
+}
 
 #[derive(Clone)]
 pub struct Table {
@@ -25,6 +37,17 @@ impl Table {
         table.write(REVISION as usize, &[1]);
         table.write_start_bytes(CONTROL_START as usize, &CONTROL, 0);
         table
+    }
+
+    /// The same with so many extra words, none of them used.
+    pub fn with_words(length: usize, extra_words: usize) -> Table {
+        let mut table = Table::new(length);
+        table.set_control_length(CONTROL.length as usize + 2 * extra_words);
+        table
+    }
+
+    pub fn set_control_length(&mut self, length: usize) {
+        self.write_word((CONTROL_START + LENGTH_AT) as usize, length);
     }
 
     pub fn lent_bytes(&self) -> &[u8] {
@@ -86,23 +109,46 @@ impl Table {
 
     // ---- Structures ----
 
-    /// Where a slot's structure starts; 0 where it is absent.
-    pub fn start(&self, slot: usize) -> usize {
-        self.word(SLOTS[slot].word as usize)
+    /// Where a word's structure starts; 0 where the word is not used.
+    pub fn start(&self, word: usize) -> usize {
+        self.word(word_at(word))
     }
 
-    pub fn set_start(&mut self, slot: usize, start: usize) {
-        self.write_word(SLOTS[slot].word as usize, start);
+    pub fn set_start(&mut self, word: usize, start: usize) {
+        self.write_word(word_at(word), start);
     }
 
-    pub fn present_slots(&self) -> Vec<usize> {
-        (0..SLOTS.len()).filter(|s| self.start(*s) != 0).collect()
+    /// The extra words that Control has.
+    pub fn extra_words(&self) -> Vec<usize> {
+        (FIRST_EXTRA..FIRST_EXTRA + extra_words(&self.bytes).len()).collect()
     }
 
-    /// Sets the Control word, and the start bytes where it points to; the fields stay.
+    /// The words that lead to a structure.
+    pub fn used_words(&self) -> Vec<usize> {
+        let named = 0..FIRST_EXTRA;
+        let all = named.chain(self.extra_words());
+        all.filter(|word| self.start(*word) != 0).collect()
+    }
+
+    /// The kind of structure to which a word leads; an extra word that leads to none is taken for one to a
+    /// target.
+    pub fn kind(&self, word: usize) -> Kind {
+        match SLOTS.get(word) {
+            Some(slot) => slot.kind,
+            None => extra(&self.bytes, word_at(word) as u64).map_or(TARGET, |found| found.kind),
+        }
+    }
+
+    /// Sets a named word, and the start bytes where it points to; the fields stay.
     pub fn put_structure(&mut self, slot: usize, start: usize) {
         self.set_start(slot, start);
         self.write_start_bytes(start, &SLOTS[slot].kind, SLOTS[slot].index as u8);
+    }
+
+    /// The same of an extra word.
+    pub fn put_extra(&mut self, word: usize, kind: &Kind, index: u8, start: usize) {
+        self.set_start(word, start);
+        self.write_start_bytes(start, kind, index);
     }
 
     /// ID, Version, Length and Index.
@@ -112,8 +158,8 @@ impl Table {
         self.write(start + INDEX_AT as usize, &[index]);
     }
 
-    pub fn set_flags(&mut self, slot: usize, flags: u8) {
-        self.write(self.start(slot) + FLAGS_AT as usize, &[flags]);
+    pub fn set_flags(&mut self, word: usize, flags: u8) {
+        self.write(self.start(word) + FLAGS_AT as usize, &[flags]);
     }
 
     pub fn set_control_flags(&mut self, flags: u8) {
@@ -122,19 +168,25 @@ impl Table {
 
     // ---- Strings ----
 
+    /// The strings that the table's structures may have, by number.
+    pub fn entries(&self) -> Vec<Entry> {
+        entries(&slots(&self.bytes))
+    }
+
     /// Where an entry's length stands; none where its structure is absent.
     pub fn entry_field(&self, entry: usize) -> Option<usize> {
-        let entry = &ENTRIES[entry];
-        match self.start(entry.slot) {
-            0 => None,
-            start => Some(start + entry.at as usize),
-        }
+        let slots = slots(&self.bytes);
+        let entry = *entries(&slots).get(entry)?;
+        let start = slots[entry.slot].start?;
+        Some((start + entry.at) as usize)
     }
 
     /// The entries whose structure is present.
     pub fn owned_entries(&self) -> Vec<usize> {
-        (0..ENTRIES.len())
-            .filter(|e| self.entry_field(*e).is_some())
+        let slots = slots(&self.bytes);
+        let entries = entries(&slots);
+        (0..entries.len())
+            .filter(|e| slots[entries[*e].slot].start.is_some())
             .collect()
     }
 
@@ -178,6 +230,39 @@ pub fn with_texts(present: &[usize], texts: &[(usize, &[u8])]) -> Table {
     let mut table = structures(present);
     for (entry, text) in texts {
         table.append_text(*entry, text);
+    }
+    table
+}
+
+/// The named structures, then so many extra NICs and targets, in the built order; nothing behind the last.
+/// Extras have every third Index, the last of each kind 255 where there are six; their words stand in the
+/// opposite order.
+pub fn structures_and_extras(named: &[usize], nics: usize, targets: usize) -> Table {
+    let extras = nics + targets;
+    let mut wanted: Vec<(usize, Kind, u8)> = Vec::new();
+    for (first, kind, count) in [(0, NIC, nics), (nics, TARGET, targets)] {
+        for i in 0..count {
+            let index = if i == 5 { 255 } else { 2 + 3 * i as u8 };
+            wanted.push((FIRST_EXTRA + extras - 1 - first - i, kind, index));
+        }
+    }
+    let slots = |kind: Kind| BUILT_ORDER.iter().filter(move |s| SLOTS[**s].kind == kind);
+    let mut order = Vec::new();
+    for kind in [INITIATOR, NIC, TARGET] {
+        let present = slots(kind).filter(|slot| named.contains(slot));
+        order.extend(present.map(|slot| (*slot, kind, SLOTS[*slot].index as u8)));
+        order.extend(wanted.iter().filter(|extra| extra.1 == kind));
+    }
+    let mut end = CONTROL_END as usize + 2 * extras;
+    let mut starts = Vec::new();
+    for (_, kind, _) in &order {
+        let alignment = ALIGNMENT as usize;
+        starts.push((end + alignment - 1) / alignment * alignment);
+        end = starts[starts.len() - 1] + kind.length as usize;
+    }
+    let mut table = Table::with_words(end, extras);
+    for ((word, kind, index), start) in order.iter().zip(starts) {
+        table.put_extra(*word, kind, *index, start);
     }
     table
 }
@@ -232,12 +317,58 @@ pub fn common_table() -> Table {
     table.mended()
 }
 
-/// The largest table that a build can make, of 3,702 bytes: every string is as long as it may be and
-/// shares nothing, and each host name has 127 dots.
+/// A table of the common one's kind with so many targets, two to eight, and as many NICs: an initiator,
+/// and of each NIC a host name and of each target its name and CHAP name.
+pub fn table_with_targets(targets: usize) -> Table {
+    let mut table = structures_and_extras(&ALL_SLOTS, targets - 2, targets - 2);
+    for (number, entry) in table.entries().iter().enumerate() {
+        let own = format!("{:02}.depot.example", number);
+        let text = match (entry.is_host_name, entry.at) {
+            (true, _) => format!("cabinet-{}", own),
+            (false, 34 | 70) => format!("iqn.2026-11.example.depot:volume-{}", own),
+            (false, 38) => format!("login-{}", own),
+            _ => continue,
+        };
+        table.append_text(number, text.as_bytes());
+    }
+    for word in table.used_words() {
+        table.set_flags(word, VALID as u8);
+    }
+    table.mended()
+}
+
+/// All five structures and twelve extras, and each of the 49 strings with bytes of its own.
+pub fn full_table_with_extras() -> Table {
+    let mut table = structures_and_extras(&ALL_SLOTS, 6, 6);
+    for number in 0..table.entries().len() {
+        table.append_text(number, format!("s{}", number).as_bytes());
+    }
+    for word in table.used_words() {
+        table.set_flags(word, VALID as u8);
+    }
+    table.set_control_flags(SINGLE_LOGIN as u8);
+    table.mended()
+}
+
+/// The largest table without extras that a build can make, of 3,702 bytes: every string is as long as it
+/// may be and shares nothing, and each host name has 127 dots.
 pub fn largest_table() -> Table {
-    let mut table = structures(&ALL_SLOTS);
-    for (i, entry) in ENTRIES.iter().enumerate() {
-        let letter = b'a' + i as u8;
+    filled(structures(&ALL_SLOTS))
+}
+
+/// The largest that a build can make, of 13,710 bytes: twelve extras, every string as long as it may be.
+pub fn largest_table_with_extras() -> Table {
+    filled(structures_and_extras(&ALL_SLOTS, 6, 6))
+}
+
+/// The table with every string as long as it may be, each of a letter of its own.
+fn filled(mut table: Table) -> Table {
+    for (i, entry) in table.entries().iter().enumerate() {
+        let letter = if i < 26 {
+            b'a' + i as u8
+        } else {
+            b'A' + (i - 26) as u8
+        };
         let text = if entry.is_host_name {
             dots_between(128, letter)
         } else {

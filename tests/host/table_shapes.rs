@@ -8,9 +8,10 @@ use crate::samples::SAMPLES;
 use crate::seeded::Seeded;
 use crate::table_damage::{self as damage, Damage};
 use crate::table_maker::*;
+use crate::table_shapes_extras::EXTRA_SHAPES;
 
 /// A name, how many inputs, and how number `n` of them is made.
-type Shape = (&'static str, usize, fn(usize, &mut Seeded) -> Table);
+pub type Shape = (&'static str, usize, fn(usize, &mut Seeded) -> Table);
 
 const CASE_5_LENGTH: usize = 133;
 const FULL_LENGTH: usize = 552;
@@ -92,11 +93,16 @@ pub struct Input {
     pub seeded: Seeded,
 }
 
+/// Tables without extra words, mostly, then tables with them.
+fn shapes() -> impl Iterator<Item = (usize, Shape)> {
+    SHAPES.iter().chain(EXTRA_SHAPES).copied().enumerate()
+}
+
 /// Shows every input to `agrees`, until one does not.
 pub fn all_agree(mut agrees: impl FnMut(Input) -> bool) -> bool {
-    for (i, (_, inputs, _)) in SHAPES.iter().enumerate() {
-        for n in 0..*inputs {
-            if !agrees(input(i, n)) {
+    for (i, shape @ (_, inputs, _)) in shapes() {
+        for n in 0..inputs {
+            if !agrees(input(i, shape, n)) {
                 return false;
             }
         }
@@ -107,16 +113,15 @@ pub fn all_agree(mut agrees: impl FnMut(Input) -> bool) -> bool {
 /// About `count` inputs of each shape, from its first to its last.
 pub fn some_of_each(count: usize) -> Vec<Input> {
     let mut some = Vec::new();
-    for (i, (_, inputs, _)) in SHAPES.iter().enumerate() {
+    for (i, shape @ (_, inputs, _)) in shapes() {
         // An odd step meets every remainder in shapes that count through bytes.
         let step = (inputs / count) | 1;
-        some.extend((0..*inputs).step_by(step).map(|n| input(i, n)));
+        some.extend((0..inputs).step_by(step).map(|n| input(i, shape, n)));
     }
     some
 }
 
-fn input(i: usize, n: usize) -> Input {
-    let (shape, _, make) = SHAPES[i];
+fn input(i: usize, (shape, _, make): Shape, n: usize) -> Input {
     let seed = ((i as u64) << 32) + n as u64;
     let mut seeded = Seeded::new(seed);
     let table = make(n, &mut seeded);
@@ -402,7 +407,7 @@ fn large_damaged(_: usize, seeded: &mut Seeded) -> Table {
     table.mended()
 }
 
-fn length_near_64_kib(seeded: &mut Seeded, table: &mut Table) {
+pub fn length_near_64_kib(seeded: &mut Seeded, table: &mut Table) {
     let low = 0x10000 - 50;
     let high = table.bytes.len().min(0x10000 + 200);
     table.set_length(seeded.between(low, high) as u32);
@@ -414,7 +419,7 @@ fn start_near_64_kib(seeded: &mut Seeded, table: &mut Table) {
     put_filled(seeded, table, slot, start);
 }
 
-fn offsets_near_64_kib(seeded: &mut Seeded, table: &mut Table) {
+pub fn offsets_near_64_kib(seeded: &mut Seeded, table: &mut Table) {
     for entry in table.owned_entries() {
         let offset = 0xFFFF - seeded.between(0, 300);
         let length = seeded.between(0, 600);

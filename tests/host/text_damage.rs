@@ -193,7 +193,7 @@ fn any_entry(seeded: &mut Seeded) -> (Field, &'static Entry) {
 }
 
 /// A little too long, or so long that all strings together may be.
-fn string_too_long(seeded: &mut Seeded, lines: &mut Vec<Line>) {
+pub fn string_too_long(seeded: &mut Seeded, lines: &mut Vec<Line>) {
     for _ in 0..seeded.one_of(&[1, 1, 2, 3, 5]) {
         let (field, entry) = any_entry(seeded);
         let longest = entry.longest as usize;

@@ -15,7 +15,7 @@ use crate::samples::SAMPLES;
 use crate::seeded::Seeded;
 use crate::table_maker::*;
 use crate::table_shapes::some_of_each;
-use crate::text_damage::{any_byte, any_damage};
+use crate::text_damage::{any_byte, any_damage, string_too_long};
 use crate::text_maker::{lines_of, text_of_lines, Line};
 
 /// Inputs of a shape: a name, how many, and how each is made.
@@ -65,8 +65,8 @@ pub fn all_tables() -> Vec<Fed> {
     for table in told_tables() {
         inputs.push(fed("values known by name", table));
     }
-    for length in [4_095, 4_096, 4_097, 65_536] {
-        inputs.push(fed("about 4,096 bytes", table_of_length(length)));
+    for length in [4_096, 16_383, 16_384, 16_385, 65_536] {
+        inputs.push(fed("about 16,384 bytes", table_of_length(length)));
     }
     inputs.extend(made(TABLES, 0x7E11_0000_0000_0000));
     for input in some_of_each(OF_EACH_SHAPE) {
@@ -109,6 +109,7 @@ const TEXTS: &[Shape] = &[
     }),
     ("one fault", 1_200, |seeded| faulty(seeded, 1)),
     ("several faults", 400, |seeded| faulty(seeded, 4)),
+    ("a string too long", 200, long_string),
     ("bytes changed", 600, bytes_changed),
     ("the example, bytes changed", 300, example_changed),
     ("about 65,536 bytes", 60, about_the_limit),
@@ -159,7 +160,7 @@ pub fn any_text(seeded: &mut Seeded) -> (Record, Vec<u8>) {
 
 fn any_lines(seeded: &mut Seeded) -> (Record, Vec<Line>) {
     let given = match seeded.once_in(8) {
-        true => whole_record(seeded, 255),
+        true => whole_record(seeded, None, 255),
         false => good_record(seeded),
     };
     let mut record = record_given(&given.record, given.strings());
@@ -171,6 +172,13 @@ fn any_lines(seeded: &mut Seeded) -> (Record, Vec<Line>) {
     }
     let lines = lines_of(seeded, &record);
     (record, lines)
+}
+
+/// A record with a string as long as it may be, or longer.
+fn long_string(seeded: &mut Seeded) -> Vec<u8> {
+    let (_, mut lines) = any_lines(seeded);
+    string_too_long(seeded, &mut lines);
+    text_of_lines(seeded, lines)
 }
 
 fn faulty(seeded: &mut Seeded, faults: usize) -> Vec<u8> {

@@ -6,56 +6,52 @@ use crate::twins::sum;
 const HEADER: usize = 48;
 const CONTROL: usize = 48;
 const CONTROL_END: usize = 66;
-const FIRST_START: usize = 72;
+const WORDS: usize = 56;
+pub const ALL_SLOTS: usize = 17;
 
-pub struct Slot {
+/// A kind of structure; where it has its strings, and how long each may be.
+pub struct Kind {
     pub id: u8,
-    pub index: u8,
     pub length: usize,
     pub named_flags: u8,
+    pub texts: &'static [(usize, usize)],
 }
 
-pub struct Entry {
-    pub slot: usize,
-    pub at: usize,
-    pub longest: usize,
-}
+pub static INITIATOR: Kind = Kind {
+    id: 2,
+    length: 74,
+    named_flags: 0x03,
+    texts: &[(70, 223)],
+};
+pub static NIC: Kind = Kind {
+    id: 3,
+    length: 102,
+    named_flags: 0x07,
+    texts: &[(98, 255)],
+};
+pub static TARGET: Kind = Kind {
+    id: 4,
+    length: 54,
+    named_flags: 0x0F,
+    texts: &[(34, 223), (38, 255), (42, 255), (46, 255), (50, 255)],
+};
 
-pub static SLOTS: [Slot; 5] = [
-    slot(2, 0, 74, 0x03),
-    slot(3, 0, 102, 0x07),
-    slot(4, 0, 54, 0x0F),
-    slot(3, 1, 102, 0x07),
-    slot(4, 1, 54, 0x0F),
+/// Kind and Index of the structures that have a named word.
+pub static NAMED: [(&Kind, u8); 5] = [
+    (&INITIATOR, 0),
+    (&NIC, 0),
+    (&TARGET, 0),
+    (&NIC, 1),
+    (&TARGET, 1),
 ];
 
-const fn slot(id: u8, index: u8, length: usize, named_flags: u8) -> Slot {
-    Slot {
-        id,
-        index,
-        length,
-        named_flags,
-    }
-}
-
-pub static ENTRIES: [Entry; 13] = [
-    entry(0, 70, 223),
-    entry(1, 98, 255),
-    entry(2, 34, 223),
-    entry(2, 38, 255),
-    entry(2, 42, 255),
-    entry(2, 46, 255),
-    entry(2, 50, 255),
-    entry(3, 98, 255),
-    entry(4, 34, 223),
-    entry(4, 38, 255),
-    entry(4, 42, 255),
-    entry(4, 46, 255),
-    entry(4, 50, 255),
-];
-
-const fn entry(slot: usize, at: usize, longest: usize) -> Entry {
-    Entry { slot, at, longest }
+/// A structure that is there, and its Control word.
+#[derive(Clone, Copy)]
+struct Found {
+    kind: &'static Kind,
+    index: u8,
+    start: usize,
+    word: usize,
 }
 
 /// Number and place.
@@ -81,16 +77,27 @@ fn check(lent: &[u8]) -> Result<(), Refusal> {
     }
     let table = &lent[..length];
     check_header(table)?;
-    let mut starts = [0; 5];
-    for (i, slot) in SLOTS.iter().enumerate() {
-        let at = CONTROL + 8 + 2 * i;
-        starts[i] = word(table, at);
-        if starts[i] != 0 {
-            check_structure(table, slot, starts[i], at)?;
+    let control_end = CONTROL + word(table, CONTROL + 2);
+    let nothing = Found {
+        kind: &INITIATOR,
+        index: 0,
+        start: 0,
+        word: 0,
+    };
+    let mut all = [nothing; ALL_SLOTS];
+    let mut count = 0;
+    for at in (WORDS..control_end).step_by(2) {
+        let start = word(table, at);
+        if start != 0 {
+            all[count] = check_structure(table, control_end, &all[..count], start, at)?;
+            count += 1;
         }
     }
-    check_sharing(&starts)?;
-    check_entries(table, &starts)
+    let found = &mut all[..count];
+    check_sharing(found)?;
+    let named = found.partition_point(|found| found.word < CONTROL_END);
+    found[named..].sort_unstable_by_key(|found| (found.kind.id, found.index));
+    check_entries(table, control_end, found)
 }
 
 pub fn word(table: &[u8], at: usize) -> usize {
@@ -115,7 +122,9 @@ fn check_header(table: &[u8]) -> Result<(), Refusal> {
     if !has_zero_tail(&table[16..24]) {
         return Err(Refusal(8, 16));
     }
-    if table[CONTROL..CONTROL + 5] != [1, 1, 18, 0, 0] {
+    let size = word(table, CONTROL + 2);
+    let is_control = table[CONTROL..CONTROL + 2] == [1, 1] && table[CONTROL + 4] == 0;
+    if !is_control || !(18..=42).contains(&size) || size % 2 != 0 || CONTROL + size > table.len() {
         return Err(Refusal(9, CONTROL));
     }
     if table[CONTROL + 5] & !1 != 0 {
@@ -127,53 +136,99 @@ fn check_header(table: &[u8]) -> Result<(), Refusal> {
     Ok(())
 }
 
-fn check_structure(table: &[u8], slot: &Slot, start: usize, at: usize) -> Result<(), Refusal> {
-    if start % 8 != 0 || start < FIRST_START || start + slot.length > table.len() {
+fn check_structure(
+    table: &[u8],
+    control_end: usize,
+    before: &[Found],
+    start: usize,
+    at: usize,
+) -> Result<Found, Refusal> {
+    let named = NAMED.get((at - WORDS) / 2);
+    let least = named.map_or(6, |(kind, _)| kind.length);
+    if start % 8 != 0 || start < control_end || start + least > table.len() {
         return Err(Refusal(12, at));
     }
-    let bytes = &table[start..start + slot.length];
-    let right = bytes[0] == slot.id
-        && bytes[1] == 1
-        && word(bytes, 2) == slot.length
-        && bytes[4] == slot.index;
+    let bytes = &table[start..];
+    let (kind, index) = match named {
+        Some(named) => *named,
+        None if bytes[0] == NIC.id => (&NIC, bytes[4].max(2)),
+        None => (&TARGET, bytes[4].max(2)),
+    };
+    let right =
+        bytes[0] == kind.id && bytes[1] == 1 && word(bytes, 2) == kind.length && bytes[4] == index;
     if !right {
         return Err(Refusal(13, start));
     }
-    if bytes[5] & !slot.named_flags != 0 {
+    if named.is_none() {
+        check_extra(table, before, kind, index, start, at)?;
+    }
+    if bytes[5] & !kind.named_flags != 0 {
         return Err(Refusal(10, start + 5));
     }
-    if slot.id == 4 && bytes[32] > 2 {
+    if kind.id == 4 && bytes[32] > 2 {
         return Err(Refusal(19, start + 32));
+    }
+    Ok(Found {
+        kind,
+        index,
+        start,
+        word: at,
+    })
+}
+
+fn check_extra(
+    table: &[u8],
+    before: &[Found],
+    kind: &Kind,
+    index: u8,
+    start: usize,
+    at: usize,
+) -> Result<(), Refusal> {
+    if start + kind.length > table.len() {
+        return Err(Refusal(12, at));
+    }
+    let alike = before
+        .iter()
+        .filter(|found| found.word >= CONTROL_END && found.kind.id == kind.id);
+    if alike.clone().any(|found| found.index == index) {
+        return Err(Refusal(33, at));
+    }
+    if alike.count() >= 6 {
+        return Err(Refusal(34, at));
     }
     Ok(())
 }
 
-fn check_sharing(starts: &[usize; 5]) -> Result<(), Refusal> {
-    let overlap = |i: usize, j: usize| {
-        starts[i] != 0
-            && starts[j] != 0
-            && starts[i] < starts[j] + SLOTS[j].length
-            && starts[j] < starts[i] + SLOTS[i].length
+fn check_sharing(found: &[Found]) -> Result<(), Refusal> {
+    let overlap = |one: &Found, other: &Found| {
+        one.start < other.start + other.kind.length && other.start < one.start + one.kind.length
     };
-    match (1..5).find(|later| (0..*later).any(|earlier| overlap(earlier, *later))) {
-        Some(later) => Err(Refusal(14, CONTROL + 8 + 2 * later)),
-        None => Ok(()),
-    }
-}
-
-fn check_entries(table: &[u8], starts: &[usize; 5]) -> Result<(), Refusal> {
-    let present = || starts.iter().zip(&SLOTS).filter(|(start, _)| **start != 0);
-    let ends = present().map(|(start, slot)| start + slot.length);
-    let heap = ends.fold(CONTROL_END, usize::max);
-    for entry in &ENTRIES {
-        if starts[entry.slot] != 0 {
-            check_entry(table, heap, starts[entry.slot] + entry.at, entry)?;
+    for (i, later) in found.iter().enumerate() {
+        if found[..i].iter().any(|earlier| overlap(earlier, later)) {
+            return Err(Refusal(14, later.word));
         }
     }
     Ok(())
 }
 
-fn check_entry(table: &[u8], heap: usize, field: usize, entry: &Entry) -> Result<(), Refusal> {
+fn check_entries(table: &[u8], control_end: usize, found: &[Found]) -> Result<(), Refusal> {
+    let ends = found.iter().map(|found| found.start + found.kind.length);
+    let heap = ends.fold(control_end, usize::max);
+    for Found { kind, start, .. } in found {
+        for (at, longest) in kind.texts {
+            check_entry(table, heap, start + at, *longest, kind)?;
+        }
+    }
+    Ok(())
+}
+
+fn check_entry(
+    table: &[u8],
+    heap: usize,
+    field: usize,
+    longest: usize,
+    kind: &Kind,
+) -> Result<(), Refusal> {
     let (size, offset) = (word(table, field), word(table, field + 2));
     let end = offset + size;
     if end == 0 {
@@ -185,10 +240,10 @@ fn check_entry(table: &[u8], heap: usize, field: usize, entry: &Entry) -> Result
     if table.get(end) != Some(&0) {
         return Err(Refusal(16, field));
     }
-    if size > entry.longest {
+    if size > longest {
         return Err(Refusal(17, field));
     }
-    if SLOTS[entry.slot].id == 3 && !is_host_name(&table[offset..end]) {
+    if kind.id == 3 && !is_host_name(&table[offset..end]) {
         return Err(Refusal(18, field));
     }
     Ok(())

@@ -10,7 +10,7 @@ use Rattle.octets.specs.Counting.{sumTo, tabulate, gather}
 use Rattle.octets.specs.Octets.{le16, zeros}
 use Rattle.string_heap.specs.Stored.{Entry}
 use Rattle.string_heap.specs.Places.{len}
-use Rattle.ibft_table.specs.Layout.{kindOf, firstEntry, slotCount, entryCount}
+use Rattle.ibft_table.specs.Layout.{kindOf, firstEntry, namedCount, namedEntries}
 use Rattle.ibft_table.specs.Readings.{entryOf, pciOf}
 use Rattle.build_rules.specs.RecordRange.{recordGiven}
 use Rattle.build_rules.specs.Promises.{Serves}
@@ -29,7 +29,7 @@ bytesIn (some a) = a
 
 -- the strings one after another, and where entry n's start
 stringsOf : (ℕ → Entry) → List ℕ
-stringsOf e = gather (λ (n : ℕ). bytesIn (e n)) 0 entryCount
+stringsOf e = gather (λ (n : ℕ). bytesIn (e n)) 0 namedEntries
 
 wordsOf : (ℕ → Entry) → ℕ → List ℕ
 wordsOf e n = le16 (len (e n)) ++ le16 (sumTo n (λ (i : ℕ). len (e i)))
@@ -39,7 +39,7 @@ imageOf e k =
     zeros 5 ++ (1 ∷ (zeros ((kindOf k) .stringsAt - 6) ++ gather (wordsOf e) (firstEntry k) (length ((kindOf k) .stringFields))))
 
 rangeOf : List ℕ → (ℕ → Entry) → List ℕ
-rangeOf marks e = zeros 15 ++ (marks ++ (tabulate (λ (n : ℕ). markOf (e n)) 0 entryCount ++ gather (imageOf e) 0 slotCount))
+rangeOf marks e = zeros 15 ++ (marks ++ (tabulate (λ (n : ℕ). markOf (e n)) 0 namedEntries ++ gather (imageOf e) 0 namedCount))
 
 -- ---- questions
 

@@ -19,6 +19,10 @@ const INITIATOR: usize = 33;
 
 const TARGET_0: usize = 209;
 
+const EXTRA_NICS: u16 = 421;
+
+const EXTRA_TARGETS: u16 = 1039;
+
 fn print_number(before: &[u8], n: u64) {
     io::write_all(1, before);
     io::print_decimal(1, n);
@@ -118,8 +122,8 @@ fn case_5_rooms(table: &[u8]) {
     case_5(b"case 5 into 200", table, &mut large);
 }
 
-// Where the record range holds each entry's length; its start stands 2 further. Names 0, 2 and 8 have at most 223 bytes.
-fn field_of(n: u8) -> u16 {
+// Where the record range holds the length of each entry of the named slots.
+fn named_field(n: u8) -> u16 {
     match n {
         0 => 103,
         1 => 205,
@@ -137,18 +141,55 @@ fn field_of(n: u8) -> u16 {
     }
 }
 
+// Where the image of the i-th extra NIC starts, and of the i-th extra target behind six extra NICs.
+fn nic_image(i: u8) -> u16 {
+    EXTRA_NICS + 103 * i as u16
+}
+
+fn target_image(i: u8) -> u16 {
+    EXTRA_TARGETS + 59 * i as u16
+}
+
+// Where the range holds each entry's length; its start stands 2 further. Behind the named slots' come the hosts of six extra NICs,
+// then five strings for each extra target.
+fn field_of(n: u8) -> u16 {
+    if n < 13 {
+        return named_field(n);
+    }
+    if n < 19 {
+        return EXTRA_NICS + 98 + 103 * (n - 13) as u16;
+    }
+    EXTRA_TARGETS + 34 + 59 * ((n - 19) / 5) as u16 + 4 * ((n - 19) % 5) as u16
+}
+
+// Names have at most 223 bytes: the initiator's and each target's.
 fn longest(n: u8) -> u16 {
     match n {
         0 => 223,
         2 => 223,
         8 => 223,
-        _ => 255,
+        _ => longest_extra(n),
     }
 }
 
-// Entry n of the largest record has four labels of its own letter.
+fn longest_extra(n: u8) -> u16 {
+    if 19 <= n {
+        if (n - 19) % 5 == 0 {
+            return 223;
+        }
+    }
+    255
+}
+
+// Entry n of the largest record has four labels of its own letter, small or capital.
 fn letter(n: u8, k: u8) -> u8 {
-    if k % 64 == 63 { b'.' } else { b'a' + n % 26 }
+    if k % 64 == 63 {
+        return b'.';
+    }
+    if n < 26 {
+        return b'a' + n;
+    }
+    b'A' + n % 26
 }
 
 // It stands at 256 x n of the strings.
@@ -162,35 +203,76 @@ fn lay_entry(range: &mut [u8], strings: &mut [u8], n: u8) {
     lay_string(strings, n);
     let field = field_of(n) as usize;
     put_u16(range, field, longest(n));
-    put_u16(range, field + 2, 256 * (n % 13) as u16);
+    put_u16(range, field + 2, 256 * n as u16);
 }
 
-fn lay_entries(range: &mut [u8], strings: &mut [u8]) {
-    for n in 0..13u8 {
+fn lay_entries(range: &mut [u8], strings: &mut [u8], count: u8) {
+    for n in 0..count {
         lay_entry(range, strings, n);
     }
 }
 
-// The largest record there is, into as many bytes as it takes and into one less.
-fn largest() {
+// The i-th extra NIC and the i-th extra target: their Index, and the marks of their entries.
+fn lay_extras(range: &mut [u8], i: u8) {
+    let nic = nic_image(i) as usize;
+    put_byte(range, nic + 4, 2 + i % 6);
+    put_byte(range, nic + 102, 1);
+    let target = target_image(i) as usize;
+    put_byte(range, target + 4, 2 + i % 6);
+    let marks = [1u8; 5];
+    put_bytes(range, target + 54, &marks);
+}
+
+fn lay_all_extras(range: &mut [u8]) {
+    put_byte(range, 419, 6);
+    put_byte(range, 420, 6);
+    for i in 0..6u8 {
+        lay_extras(range, i);
+    }
+}
+
+// A record into a room: the answer, and what the check says of the room.
+fn print_large(name: &[u8], range: &[u8], strings: &[u8], room: &mut [u8]) {
+    print_built(name, build(range, strings, room));
+    print_check(room);
+    end_line();
+}
+
+// The largest record without extras, into as many bytes as it takes and into one less.
+fn largest_named() {
     let mut range = [0u8; 419];
     let mut strings = [0u8; 3328];
     let marks = [1u8; 18];
     put_bytes(&mut range, SLOT_MARKS, &marks);
-    lay_entries(&mut range, &mut strings);
+    lay_entries(&mut range, &mut strings, 13);
     let mut exact = [0u8; 3702];
-    print_built(
-        b"largest record into 3702",
-        build(&range, &strings, &mut exact),
+    print_large(
+        b"largest record without extras into 3702",
+        &range,
+        &strings,
+        &mut exact,
     );
-    print_check(&exact);
-    end_line();
     let mut small = [0u8; 3701];
-    print_built(
-        b"largest record into 3701",
-        build(&range, &strings, &mut small),
+    print_large(
+        b"largest record without extras into 3701",
+        &range,
+        &strings,
+        &mut small,
     );
-    end_line();
+}
+
+// The largest record there is.
+fn largest() {
+    let mut range = [0u8; 1393];
+    let mut strings = [0u8; 12544];
+    let marks = [1u8; 18];
+    put_bytes(&mut range, SLOT_MARKS, &marks);
+    lay_all_extras(&mut range);
+    lay_entries(&mut range, &mut strings, 49);
+    let mut exact = [0u8; 13710];
+    print_large(b"largest record into 13710", &range, &strings, &mut exact);
+    let mut small = [0u8; 13709];
+    print_large(b"largest record into 13709", &range, &strings, &mut small);
 }
 
 fn main() {
@@ -200,5 +282,6 @@ fn main() {
     long_name(b"initiator name of 223", 223);
     long_name(b"initiator name of 224", 224);
     case_5_rooms(table);
+    largest_named();
     largest();
 }

@@ -2,7 +2,7 @@
 -- stored at its longest; both are then worked out from the layout.
 --     endTo-most        structures end no later than where all are present
 --     heapSize-most     entries take at most their longest and a zero each
---     heap-start-bound, heap-size-bound, length-bound     the numbers: 470, 3,232, 3,702
+--     heap-start-bound, heap-size-bound, length-bound     the numbers: 1,454, 12,256, 13,710
 -- Assumes nothing.
 use mathlib.Core.Path.{_≡_, refl}
 use mathlib.Core.Bool.{Bool, true, false, cond}
@@ -15,9 +15,11 @@ use Rattle.octets.specs.Counting.{sumTo}
 use Rattle.string_heap.specs.Stored.{Entry, every, stored, ofStored, size, heapSize}
 use Rattle.string_heap.specs.Starts.{align8, endTo}
 use Rattle.string_heap.proofs.Intervals.{sumTo-le}
-use Rattle.ibft_table.specs.Layout.{kindOf, slotCount, entryCount, controlEnd, builtSlot, stringOf}
+use Rattle.ibft_table.specs.Layout.{kindOf, slotCount, entryCount, namedCount, mostWords, controlEnd, builtSlot, stringOf}
 use Rattle.ibft_table.specs.Record.{Content}
-use Rattle.build_rules.specs.Plan.{isPresent, endBuilt, heapStart, lengthBuilt}
+use Rattle.octets.proofs.CountLaws.{count-le}
+use Rattle.ibft_laws.proofs.LeastLaws.{endTo-base}
+use Rattle.build_rules.specs.Plan.{isPresent, extrasBuilt, endBuilt, heapStart, lengthBuilt}
 use Rattle.build_rules.specs.Computing.{computing}
 use Rattle.build_rules.proofs.GoodContent.{Good}
 
@@ -33,14 +35,25 @@ endTo-most on size base (suc k) = go (on k) (endTo-most on size base k)
     go true h = omega arith
     go false h = omega arith
 
-all-end : endTo every (λ (i : ℕ). (kindOf (builtSlot i)) .length) controlEnd slotCount ≡ 470
+all-end : endTo every (λ (i : ℕ). (kindOf (builtSlot i)) .length) (controlEnd mostWords) slotCount ≡ 1454
 unfolding computing
 all-end = refl
 
-pub heap-start-bound : (c : Content) → heapStart c ≤ 470
+pub extras-most : (c : Content) → extrasBuilt c ≤ mostWords
+unfolding extrasBuilt
+extras-most c = count-le mostWords (λ (i : ℕ). isPresent (c .structure (namedCount + i)))
+
+pub heap-start-bound : (c : Content) → heapStart c ≤ 1454
 unfolding heapStart endBuilt
 heap-start-bound c =
-    omega (arith, all-end, endTo-most (λ (i : ℕ). isPresent (c .structure (builtSlot i))) (λ (i : ℕ). (kindOf (builtSlot i)) .length) controlEnd slotCount)
+    let size : ℕ → ℕ = λ i. (kindOf (builtSlot i)) .length in
+    let base : controlEnd (extrasBuilt c) ≤ controlEnd mostWords = omega (arith, extras-most c) in
+    omega (
+      arith,
+      all-end,
+      endTo-most (λ (i : ℕ). isPresent (c .structure (builtSlot i))) size (controlEnd (extrasBuilt c)) slotCount,
+      endTo-base every size (controlEnd (extrasBuilt c)) (controlEnd mostWords) slotCount base,
+    )
 
 -- ---- entries
 
@@ -55,15 +68,15 @@ heapSize-most n shares e longest short =
     go i h (some a) is true = omega (arith, short i a h is)
     go i h (some a) is false = omega arith
 
-all-longest : sumTo entryCount (λ (n : ℕ). (stringOf n) .longest + 1) ≡ 3232
+all-longest : sumTo entryCount (λ (n : ℕ). (stringOf n) .longest + 1) ≡ 12256
 unfolding computing
 all-longest = refl
 
 module _ (c : Content) (good : Good c) where
-  pub heap-size-bound : heapSize entryCount every (c .entry) ≤ 3232
+  pub heap-size-bound : heapSize entryCount every (c .entry) ≤ 12256
   heap-size-bound =
       omega (arith, all-longest, heapSize-most entryCount every (c .entry) (λ (n : ℕ). (stringOf n) .longest) (λ n a h is. good .entry n a h is .not-long))
 
-  pub length-bound : lengthBuilt c ≤ 3702
+  pub length-bound : lengthBuilt c ≤ 13710
   unfolding lengthBuilt
   length-bound = omega (arith, heap-start-bound c, heap-size-bound)

@@ -8,13 +8,15 @@
 --     size-back, offset-back, holds-back                       an entry's words
 --     heap-back, entry-stands, entry-back                      the heap's start, and the strings in it
 -- Assumes nothing.
-use mathlib.Core.Path.{_≡_, refl, sym, ap, ap₂, _∙_}
+use mathlib.Core.Path.{_≡_, refl, sym, ap, ap₂, _∙_, subst}
 use mathlib.Core.Bool.{Bool, true, false, _&&_, _||_, or-true}
 use mathlib.Core.List.{List, [], _∷_, _++_}
 use mathlib.Core.Option.{none, some}
 use Prim.Native.Nat.{ℕ, zero, suc, _+_, _*_, _-_, _%_, _≤_, _<_}
 use native.Mathlib.Nat.{add-zero, zero-add, add-assoc}
 use native.Mathlib.Omega.{arith}
+use native.Mathlib.Decide.{decLt}
+use borrow.Author.Tests.{lt-ltb, ltb-true}
 use lib.ListN.{length, take, getD, length-take}
 use lib.Seq.{getD-take, getD-set-other, take-at, take-take}
 use Rattle.octets.specs.Counting.{gather}
@@ -27,13 +29,17 @@ use Rattle.string_heap.specs.Stored.{Entry, every, heapSize}
 use Rattle.string_heap.specs.Places.{len, heapTo, place}
 use Rattle.string_heap.proofs.TailsLaws.{Stands, stands-lies, stands-part}
 use Rattle.string_heap.proofs.HostLaws.{heap-length, placed}
-use Rattle.ibft_table.specs.Layout.{control, kindOf, indexOf, firstEntry, slotCount, entryCount, builtSlot, controlAt, extensionsAt, wordAt, chapAt, ownerOf}
-use Rattle.ibft_table.specs.Table.{lengthOf, startOf, present, endOf, heapOf, fieldOf, sizeOf, offsetOf, holdsEntry}
+use Rattle.ibft_table.specs.Layout.{Kind, control, kindOf, firstEntry, slotCount, entryCount, namedCount, extraNics, extraTargets, controlEnd, slotAt, builtSlot, controlAt, extensionsAt, wordAt, chapAt, ownerOf}
+use Rattle.ibft_table.specs.Table.{lengthOf, controlLength, controlEndOf, extraWords, wordCount, startAt, usedAt, kindAt, endAt, startsOf, startIn, startOf, presentIn, present, endIn, endOf, heapOf, fieldIn, fieldOf, sizeIn, sizeOf, offsetIn, offsetOf, holdsIn, holdsEntry}
+use Rattle.ibft_table.proofs.SeatLaws.{named-at}
+use Rattle.ibft_laws.proofs.SeatLaws.{slot-kind}
+use Rattle.ibft_laws.proofs.SeatBackLaws.{Laid, slot-back, extra-back, start-back as laid-start, start-none as laid-none}
+use Rattle.build_rules.proofs.WordsBackLaws.{extras-are, seat-nic, seat-target, seat-high, seat-present, length-word, word-back, laid-back}
 use Rattle.ibft_table.specs.Record.{Content, bodySize}
 use Rattle.ibft_table.proofs.CheckLaws.{heap-after-control}
 use Rattle.ibft_laws.proofs.LayoutLaws.{slot-fits, entry-fits}
 use Rattle.ibft_laws.proofs.HeapLaws.{heap-end, heap-below}
-use Rattle.build_rules.specs.Plan.{isPresent, endBuilt, startBuilt, heapStart, lengthBuilt, offsetBuilt}
+use Rattle.build_rules.specs.Plan.{isPresent, extrasBuilt, endBuilt, startBuilt, heapStart, lengthBuilt, offsetBuilt}
 use Rattle.build_rules.specs.TableBytes.{headerBytes, controlBytes, wordsBuilt, structureBytes, bareTable, tableOf}
 use Rattle.build_rules.proofs.GoodContent.{Good}
 use Rattle.build_rules.proofs.PlanLaws.{turn-fits, length-least, some-present, none-absent, present-some, end-absent, end-first, start-none, start-least, start-end, start-inside, start-below, heap-start-least, heap-start-length, length-below, offset-none, offset-is, offset-low, offset-below, size-below}
@@ -135,10 +141,6 @@ module _ (c : Content) (good : Good c) (t : List ℕ) (front : Begins c t) where
   unfolding controlBytes
   control-version-back = control-byte 1 (omega arith)
 
-  pub control-length-back : word16 t (controlAt + 2) ≡ control .length
-  unfolding controlBytes
-  control-length-back = omega (arith, control-byte 2 (omega arith), control-byte 3 (omega arith))
-
   pub control-index-back : byte t (controlAt + 4) ≡ 0
   unfolding controlBytes
   control-index-back = control-byte 4 (omega arith)
@@ -151,19 +153,92 @@ module _ (c : Content) (good : Good c) (t : List ℕ) (front : Begins c t) where
   unfolding controlBytes
   extensions-back = omega (arith, control-byte 6 (omega arith), control-byte 7 (omega arith))
 
+  -- ---- where each structure's bytes stand
+
+  built-back : (k : ℕ) (b : List ℕ) → k < slotCount → c .structure k ≡ some b → Lies t (startBuilt c k) (structureBytes c k b)
+  built-back k b h is =
+      let on = some-present (c .structure k) b is in
+      let size = good .body k b h is .body-size in
+      lies-back (startBuilt c k) (structureBytes c k b) (omega (arith, start-least c k on))
+      (omega (arith, structure-length c k b h size, start-inside c k on h, heap-start-length c)) (structure-lies c good k b h is)
+
+  built-byte : (i k : ℕ) → i < 6 → k < slotCount → isPresent (c .structure k) ≡ true
+      → (b : List ℕ) × (c .structure k ≡ some b) × (byte t (startBuilt c k + i) ≡ byte (structureBytes c k b) i)
+  built-byte i k l h on =
+      let w = present-some (c .structure k) on in
+      let fits = slot-fits k h in
+      (w .0, w .1, built-back k (w .0) h (w .1) i (omega (arith, structure-length c k (w .0) h (good .body k (w .0) h (w .1) .body-size))))
+
+  built-id : (k : ℕ) → k < slotCount → isPresent (c .structure k) ≡ true → byte t (startBuilt c k) ≡ (kindOf k) .id
+  unfolding structureBytes
+  built-id k h on = ap (byte t) (sym (add-zero (startBuilt c k))) ∙ built-byte 0 k (omega arith) h on .2
+
+  built-index : (k : ℕ) → k < slotCount → isPresent (c .structure k) ≡ true → byte t (startBuilt c k + 4) ≡ c .index k
+  unfolding structureBytes
+  built-index k h on = built-byte 4 k (omega arith) h on .2
+
   -- ---- which structures there are, and where
+
+  pub laid : Laid t (good .nics) (good .targets)
+  laid = laid-back c (good .nics) (good .targets) (good .extras) t control-back built-id built-index
+
+  pub control-length-back : controlLength t ≡ 18 + 2 * (good .nics + good .targets)
+  control-length-back = length-word c (good .nics) (good .targets) (good .extras) t control-back built-id built-index
+
+  -- a named slot's word
+  pub named-back : (k : ℕ) → k < namedCount → startAt t k ≡ startBuilt c k
+  unfolding startAt
+  named-back k h =
+      let place : controlAt + (8 + 2 * k) ≡ wordAt k = omega arith in
+      word16-back t (wordAt k) (startBuilt c k) (start-below c k (omega arith))
+      (rw place at
+      (lies-within t (controlBytes c) (le16 (startBuilt c k)) controlAt (8 + 2 * k) (omega (arith, control-length c)) control-back (start-word-lies c k h)))
+
+  -- the word of an extra slot in use
+  extra-word : (k : ℕ) → namedCount ≤ k → k < slotCount → isPresent (c .structure k) ≡ true
+      → (w : ℕ) × (namedCount ≤ w) × (w < namedCount + (good .nics + good .targets)) × (slotAt (good .nics) w ≡ k)
+  extra-word k l h on =
+      let nics = good .extras .nics in
+      elim (decLt k extraTargets) [
+        | yes m ↦
+            let i : ℕ = k - extraNics in
+            let below = ltb-true i (good .nics) (sym (good .extras .nics-are i (omega arith)) ∙ ap (λ (j : ℕ). isPresent (c .structure j)) (omega arith) ∙ on) in
+            (k, l, omega arith, seat-nic c (good .nics) (good .targets) (good .extras) k (omega arith))
+        | no m ↦
+            let i : ℕ = k - extraTargets in
+            let below = ltb-true i (good .targets) (sym (good .extras .targets-are i (omega arith)) ∙ ap (λ (j : ℕ). isPresent (c .structure j)) (omega arith) ∙ on) in (
+              namedCount + good .nics + i,
+              omega arith,
+              omega arith,
+              seat-target c (good .nics) (good .targets) (good .extras) (namedCount + good .nics + i) (omega arith) ∙ omega arith,
+            )
+      ]
+
+  extra-start : (k : ℕ) → namedCount ≤ k → k < slotCount → startOf t k ≡ startBuilt c k
+  extra-start k l h = go (isPresent (c .structure k)) refl
+    where
+      go : (b : Bool) → isPresent (c .structure k) ≡ b → startOf t k ≡ startBuilt c k
+      go true on =
+          let w = extra-word k l h on in
+          ap (λ (j : ℕ). startOf t j) (sym (w .3)) ∙ laid-start t (good .nics) (good .targets) laid (w .0) (w .1) (w .2)
+          ∙ word-back c (good .nics) (good .targets) (good .extras) t control-back built-id built-index (w .0) (w .1) (w .2)
+          ∙ ap (λ (j : ℕ). startBuilt c j) (w .3)
+      go false off =
+          laid-none t (good .nics) (good .targets) laid k l
+          (λ w x y z. clash (sym (ap (λ (j : ℕ). isPresent (c .structure j)) z) ∙ seat-present c (good .nics) (good .targets) (good .extras) w x y) off)
+          ∙ sym (start-none c k off)
 
   module _ (k : ℕ) (h : k < slotCount) where
     pub start-back : startOf t k ≡ startBuilt c k
-    unfolding startOf
+    unfolding startIn startsOf
     start-back =
-        let place : controlAt + (8 + 2 * k) ≡ wordAt k = omega arith in
-        word16-back t (wordAt k) (startBuilt c k) (start-below c k h)
-        (rw place at
-        (lies-within t (controlBytes c) (le16 (startBuilt c k)) controlAt (8 + 2 * k) (omega (arith, control-length c)) control-back (start-word-lies c k h)))
+        elim (decLt k namedCount) [
+          | yes l ↦ named-at t (extraWords t) k l ∙ named-back k l
+          | no l ↦ extra-start k (omega arith) h
+        ]
 
     pub present-back : present t k ≡ isPresent (c .structure k)
-    unfolding present
+    unfolding presentIn
     present-back = go (isPresent (c .structure k)) refl
       where
         go : (b : Bool) → isPresent (c .structure k) ≡ b → differs (startOf t k) 0 ≡ isPresent (c .structure k)
@@ -171,7 +246,7 @@ module _ (c : Content) (good : Good c) (t : List ℕ) (front : Begins c t) where
         go false off = same-differs (startOf t k) 0 (start-back ∙ start-none c k off) ∙ sym off
 
     pub end-back : endOf t k ≡ startBuilt c k + (kindOf k) .length
-    unfolding endOf
+    unfolding endIn
     end-back = ap (λ (s : ℕ). s + (kindOf k) .length) start-back
 
   -- ---- a structure
@@ -188,9 +263,7 @@ module _ (c : Content) (good : Good c) (t : List ℕ) (front : Begins c t) where
 
     pub structure-back : Lies t (startOf t k) (structureBytes c k b)
     structure-back =
-        rw (start-back k h)
-        (lies-back (startBuilt c k) (structureBytes c k b) (omega (arith, start-least c k on))
-        (omega (arith, structure-length c k b h size, start-inside c k on h, heap-start-length c)) (structure-lies c good k b h is))
+        rw (start-back k h) (built-back k b h is)
 
     structure-byte : (i : ℕ) → i < (kindOf k) .length → byte t (startOf t k + i) ≡ byte (structureBytes c k b) i
     structure-byte i l = structure-back i (omega (arith, structure-length c k b h size))
@@ -213,9 +286,9 @@ module _ (c : Content) (good : Good c) (t : List ℕ) (front : Begins c t) where
         word16-back t (startOf t k + 2) ((kindOf k) .length) (omega arith)
         (lies-within t (structureBytes c k b) (le16 ((kindOf k) .length)) (startOf t k) 2 (omega (arith, long, structure-length c k b h size)) structure-back
         (lies-middle ((kindOf k) .id ∷ (kindOf k) .version ∷ []) (le16 ((kindOf k) .length))
-        (indexOf k ∷ (b ++ gather (wordsBuilt c) (firstEntry k) (length ((kindOf k) .stringFields)))) 2 refl))
+        (c .index k ∷ (b ++ gather (wordsBuilt c) (firstEntry k) (length ((kindOf k) .stringFields)))) 2 refl))
 
-    pub index-back : byte t (startOf t k + 4) ≡ indexOf k
+    pub index-back : byte t (startOf t k + 4) ≡ c .index k
     unfolding structureBytes
     index-back = structure-byte 4 (omega (arith, long))
 
@@ -244,7 +317,7 @@ module _ (c : Content) (good : Good c) (t : List ℕ) (front : Begins c t) where
 
   module _ (n : ℕ) (h : n < entryCount) (owned : isPresent (c .structure (ownerOf n)) ≡ true) where
     words-back : Lies t (fieldOf t n) (wordsBuilt c n)
-    unfolding fieldOf
+    unfolding fieldIn
     words-back =
         let k : ℕ = ownerOf n in
         let e = entry-fits n h in
@@ -258,7 +331,7 @@ module _ (c : Content) (good : Good c) (t : List ℕ) (front : Begins c t) where
         (omega (arith, words-size c n, structure-length c k (w .0) hk size)) (structure-back k hk (w .0) (w .1)) (words-lie c k (w .0) hk size n (e .from) (e .below)))
 
     pub size-back : sizeOf t n ≡ len (c .entry n)
-    unfolding sizeOf wordsBuilt
+    unfolding sizeIn wordsBuilt
     size-back =
         word16-back t (fieldOf t n) (len (c .entry n)) (size-below c good n h)
         (rw (add-zero (fieldOf t n)) at
@@ -266,7 +339,7 @@ module _ (c : Content) (good : Good c) (t : List ℕ) (front : Begins c t) where
         (lies-front (le16 (len (c .entry n))) (le16 (offsetBuilt c n)))))
 
     pub offset-back : offsetOf t n ≡ offsetBuilt c n
-    unfolding offsetOf wordsBuilt
+    unfolding offsetIn wordsBuilt
     offset-back =
         word16-back t (fieldOf t n + 2) (offsetBuilt c n) (offset-below c good n h)
         (lies-within t (wordsBuilt c n) (le16 (offsetBuilt c n)) (fieldOf t n) 2 (omega arith) words-back
@@ -274,7 +347,7 @@ module _ (c : Content) (good : Good c) (t : List ℕ) (front : Begins c t) where
 
   -- an entry is read as present where it is
   pub holds-back : (n : ℕ) → n < entryCount → holdsEntry t n ≡ isPresent (c .entry n)
-  unfolding holdsEntry len
+  unfolding holdsIn len
   holds-back n h = go (isPresent (c .structure (ownerOf n))) refl (c .entry n) refl
     where
       owner-back : present t (ownerOf n) ≡ isPresent (c .structure (ownerOf n))
@@ -299,9 +372,77 @@ module _ (c : Content) (good : Good c) (t : List ℕ) (front : Begins c t) where
 
   -- ---- the heap
 
+  pub words-are : wordCount t ≡ namedCount + (good .nics + good .targets)
+  unfolding wordCount
+  words-are = ap (λ (n : ℕ). namedCount + n) (laid .words)
+
+  pub control-end : controlEndOf t ≡ controlEnd (extrasBuilt c)
+  control-end = omega (arith, control-length-back, extras-are c (good .nics) (good .targets) (good .extras))
+
+  -- word w is that of slot k
+  pub record WordIs (w k : ℕ) : Type 0 where
+    pub below : w < wordCount t
+    pub slot : k < slotCount
+    pub start : startAt t w ≡ startBuilt c k
+    pub kind : kindAt t w ≡ kindOf k
+
+  pub named-is : (k : ℕ) → k < namedCount → WordIs k k
+  unfolding kindAt
+  named-is k l = record { below = omega (arith, words-are); slot = omega arith; start = named-back k l; kind = rw (lt-ltb k namedCount l) }
+
+  pub extra-is : (w : ℕ) → namedCount ≤ w → w < namedCount + (good .nics + good .targets) → WordIs w (slotAt (good .nics) w)
+  extra-is w l h =
+      let below : w < wordCount t = omega (arith, words-are) in
+      let facts = extra-back t (good .nics) (good .targets) laid in
+      record {
+        below = below;
+        slot = seat-high c (good .nics) (good .targets) (good .extras) w l h .1;
+        start = word-back c (good .nics) (good .targets) (good .extras) t control-back built-id built-index w l h;
+        kind = sym (slot-kind t facts w (record { low = l; high = below; used = laid .used w l h })) ∙ ap kindOf (slot-back t (good .nics) (good .targets) laid w l h);
+      }
+
+  pub word-ends : (w k : ℕ) → WordIs w k → endAt t w ≡ startBuilt c k + (kindOf k) .length
+  unfolding endAt
+  word-ends w k x = ap₂ (λ (q : ℕ) (y : Kind). q + y .length) (x .start) (x .kind)
+
+  word-used : (w k : ℕ) → WordIs w k → isPresent (c .structure k) ≡ true → usedAt t w ≡ true
+  unfolding usedAt
+  word-used w k x on = unlike-differs (startAt t w) 0 (λ z. omega (arith, x .start, start-least c k on))
+
+  pub used-present : (w k : ℕ) → WordIs w k → usedAt t w ≡ true → isPresent (c .structure k) ≡ true
+  unfolding usedAt
+  used-present w k x on = go (isPresent (c .structure k)) refl
+    where
+      go : (b : Bool) → isPresent (c .structure k) ≡ b → isPresent (c .structure k) ≡ true
+      go true e = e
+      go false e = clash on (same-differs (startAt t w) 0 (x .start ∙ start-none c k e))
+
+  -- a structure ends at or before the heap
+  end-by : (w k : ℕ) → WordIs w k → isPresent (c .structure k) ≡ true → startBuilt c k + (kindOf k) .length ≤ heapOf t
+  end-by w k x on = omega (arith, word-ends w k x, heap-end t w (x .below) (word-used w k x on))
+
+  slot-ends : (k : ℕ) → k < slotCount → isPresent (c .structure k) ≡ true → startBuilt c k + (kindOf k) .length ≤ heapOf t
+  slot-ends k h on =
+      elim (decLt k namedCount) [
+        | yes l ↦ end-by k k (named-is k l) on
+        | no l ↦
+            let w = extra-word k (omega arith) h on in
+            end-by (w .0) k (subst (λ (j : ℕ). WordIs (w .0) j) (w .3) (extra-is (w .0) (w .1) (w .2))) on
+      ]
+
+  word-inside : (w : ℕ) → w < wordCount t → usedAt t w ≡ true → endAt t w ≤ heapStart c
+  word-inside w h on =
+      elim (decLt w namedCount) [
+        | yes l ↦ by w (named-is w l)
+        | no l ↦ by (slotAt (good .nics) w) (extra-is w (omega arith) (omega (arith, words-are)))
+      ]
+    where
+      by : (k : ℕ) → WordIs w k → endAt t w ≤ heapStart c
+      by k x = omega (arith, word-ends w k x, start-inside c k (used-present w k x on) (x .slot))
+
   -- each end along the build's order is Control's or a structure's
   built-below : (j : ℕ) → j ≤ slotCount → endBuilt c j ≤ heapOf t
-  built-below zero h = omega (arith, end-first c, heap-after-control t)
+  built-below zero h = omega (arith, end-first c, heap-after-control t, control-end)
   built-below (suc j) h = go (isPresent (c .structure (builtSlot j))) refl (built-below j (omega arith))
     where
       go : (b : Bool) → isPresent (c .structure (builtSlot j)) ≡ b → endBuilt c j ≤ heapOf t → endBuilt c (suc j) ≤ heapOf t
@@ -309,8 +450,7 @@ module _ (c : Content) (good : Good c) (t : List ℕ) (front : Begins c t) where
           let f = turn-fits j h in
           omega (
             arith,
-            heap-end t (builtSlot j) (f .slot) (present-back (builtSlot j) (f .slot) ∙ on),
-            end-back (builtSlot j) (f .slot),
+            slot-ends (builtSlot j) (f .slot) on,
             start-end c (builtSlot j) on (f .slot),
             ap (λ (i : ℕ). endBuilt c (suc i)) (f .turn-of-slot),
           )
@@ -319,8 +459,7 @@ module _ (c : Content) (good : Good c) (t : List ℕ) (front : Begins c t) where
   pub heap-back : heapOf t ≡ heapStart c
   unfolding heapStart
   heap-back =
-      let above =
-      heap-below t (heapStart c) (heap-start-least c) (λ k h on. omega (arith, end-back k h, start-inside c k (sym (present-back k h) ∙ on) h)) in
+      let above = heap-below t (heapStart c) (omega (arith, control-end, heap-start-least c)) word-inside in
       omega (arith, above, built-below slotCount (omega arith))
 
   heap-bytes-back : Lies t (heapStart c) (heapTo entryCount every (c .entry) entryCount)

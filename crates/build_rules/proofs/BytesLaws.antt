@@ -7,13 +7,15 @@
 --     body-lies, words-lie                                                and in a structure
 --     table-sums                                                          the table sums to 0 modulo 256
 -- Assumes nothing.
-use mathlib.Core.Path.{_≡_, refl, ap, _∙_}
+use mathlib.Core.Path.{_≡_, refl, sym, ap, _∙_, subst}
 use mathlib.Core.List.{List, [], _∷_, _++_, append-assoc}
 use mathlib.Core.Option.{Option, none, some}
 use Prim.Native.Nat.{ℕ, suc, _+_, _*_, _-_, _%_, _≤_, _<_}
 use native.Mathlib.Omega.{arith}
 use lib.ListN.{length, length-append, length-set}
-use Rattle.octets.specs.Counting.{gather}
+use mathlib.Core.Bool.{Bool, true, false, cond}
+use Rattle.octets.specs.Counting.{count, gather}
+use Rattle.octets.proofs.CountLaws.{count-last, count-none}
 use Rattle.octets.specs.Octets.{le16, le32, zeros, sum, checksum}
 use Rattle.octets.proofs.LiesLaws.{Lies, lies-front, lies-last, lies-middle, lies-behind, lies-within, gather-length, gather-lies, gather-ends}
 use Rattle.octets.proofs.SumLaws.{checksum-sums}
@@ -22,11 +24,11 @@ use Rattle.string_heap.specs.Stored.{every, heapSize}
 use Rattle.string_heap.specs.Places.{heapTo}
 use Rattle.string_heap.specs.Starts.{align8}
 use Rattle.string_heap.proofs.HostLaws.{heap-length}
-use Rattle.ibft_table.specs.Layout.{control, kindOf, indexOf, firstEntry, slotCount, entryCount, builtSlot, controlAt, controlEnd}
+use Rattle.ibft_table.specs.Layout.{kindOf, firstEntry, slotCount, entryCount, namedCount, mostWords, builtSlot, controlAt, controlEnd}
 use Rattle.ibft_table.specs.Record.{Content, bodySize}
 use Rattle.ibft_laws.proofs.LayoutLaws.{slot-fits}
-use Rattle.build_rules.specs.Plan.{endBuilt, turnOf, startBuilt, heapStart, lengthBuilt}
-use Rattle.build_rules.specs.TableBytes.{headerBytes, startBytes, controlBytes, wordsBuilt, structureBytes, stretchAs, stretch, bareTable, tableOf}
+use Rattle.build_rules.specs.Plan.{isPresent, extrasBuilt, endBuilt, turnOf, startBuilt, heapStart, lengthBuilt}
+use Rattle.build_rules.specs.TableBytes.{headerBytes, startBytes, controlStart, extraWord, controlBytes, wordsBuilt, structureBytes, stretchAs, stretch, bareTable, tableOf}
 use Rattle.build_rules.proofs.GoodContent.{Good}
 use Rattle.build_rules.proofs.PlanLaws.{turn-fits, some-present, none-absent, end-present, end-absent, end-first, start-is, length-least}
 
@@ -62,14 +64,14 @@ module _ (c : Content) (k : ℕ) where
     pub body-lies : Lies (structureBytes c k body) 5 body
     unfolding structureBytes
     body-lies =
-        lies-middle (startBytes (kindOf k) (indexOf k)) body (gather (wordsBuilt c) (firstEntry k) (length ((kindOf k) .stringFields))) 5 refl
+        lies-middle (startBytes (kindOf k) (c .index k)) body (gather (wordsBuilt c) (firstEntry k) (length ((kindOf k) .stringFields))) 5 refl
 
     pub words-lie : (n : ℕ) → firstEntry k ≤ n → n < firstEntry k + length ((kindOf k) .stringFields)
         → Lies (structureBytes c k body) ((kindOf k) .stringsAt + 4 * (n - firstEntry k)) (wordsBuilt c n)
     unfolding structureBytes words wordsAt
     words-lie n l m =
         let fits = slot-fits k h in
-        let start : List ℕ = startBytes (kindOf k) (indexOf k) in
+        let start : List ℕ = startBytes (kindOf k) (c .index k) in
         rw (append-assoc start body words) at
         (gather-ends (wordsBuilt c) wordsAt (start ++ body) (firstEntry k) (length ((kindOf k) .stringFields)) (λ n l h. words-next n l)
         (omega arith) n l m)
@@ -96,16 +98,80 @@ module _ (c : Content) where
   header-length e f =
       omega (arith, length-append (c .oemId) (c .oemTableId ++ zeros 24), length-append (c .oemTableId) (zeros 24), length-zeros 24)
 
-  pub control-length : length (controlBytes c) ≡ 18
-  unfolding controlBytes gather
-  control-length = refl
+  -- where the word of an extra slot stands in Control: behind those of the extra slots in use before it
+  unfoldable pub wordPlace : ℕ → ℕ
+  wordPlace k = 18 + 2 * count (k - namedCount) (λ (i : ℕ). isPresent (c .structure (namedCount + i)))
 
-  -- the start of slot k's structure, as Control has it
-  pub start-word-lies : (k : ℕ) → k < slotCount → Lies (controlBytes c) (8 + 2 * k) (le16 (startBuilt c k))
+  extra-next : (k : ℕ) → namedCount ≤ k → wordPlace (suc k) ≡ wordPlace k + length (extraWord c k)
+  unfolding wordPlace extraWord
+  extra-next k l = go (isPresent (c .structure k)) refl
+    where
+      p : ℕ → Bool
+      p i = isPresent (c .structure (namedCount + i))
+
+      step : (b : Bool) → isPresent (c .structure k) ≡ b → count (suc k - namedCount) p ≡ count (k - namedCount) p + cond b 1 0
+      step b e =
+          let same : namedCount + (k - namedCount) ≡ k = omega arith in
+          let next : suc k - namedCount ≡ suc (k - namedCount) = omega arith in
+          ap (λ (n : ℕ). count n p) next ∙ count-last (k - namedCount) p
+          ∙ ap (λ (x : Bool). count (k - namedCount) p + cond x 1 0) (ap (λ (j : ℕ). isPresent (c .structure j)) same ∙ e)
+
+      go : (b : Bool) → isPresent (c .structure k) ≡ b
+          → 18 + 2 * count (suc k - namedCount) p ≡ 18 + 2 * count (k - namedCount) p + length (cond b (le16 (startBuilt c k)) [])
+      go true e = omega (arith, step true e)
+      go false e = omega (arith, step false e)
+
+  -- Control up to its words, and the words of the named slots
+  controlHead : List ℕ
+  controlHead = controlStart (extrasBuilt c) ++ (c .flags ∷ le16 0)
+
+  namedWords : List ℕ
+  namedWords = gather (λ (k : ℕ). le16 (startBuilt c k)) 0 namedCount
+
+  extraWordsBuilt : List ℕ
+  extraWordsBuilt = gather (extraWord c) namedCount mostWords
+
+  front-words : length (controlHead ++ namedWords) ≡ 18
+  unfolding controlHead namedWords gather
+  front-words = refl
+
+  control-is : controlBytes c ≡ (controlHead ++ namedWords) ++ extraWordsBuilt
+  unfolding controlBytes controlHead namedWords extraWordsBuilt
+  control-is =
+      sym (append-assoc (controlStart (extrasBuilt c) ++ (c .flags ∷ le16 0)) (gather (λ (k : ℕ). le16 (startBuilt c k)) 0 namedCount) (gather (extraWord c) namedCount mostWords))
+
+  pub control-length : length (controlBytes c) ≡ 18 + 2 * extrasBuilt c
+  unfolding extrasBuilt wordPlace extraWordsBuilt
+  control-length =
+      let all = gather-length (extraWord c) wordPlace namedCount mostWords (λ k l h. extra-next k l) in
+      omega (
+        arith,
+        ap length control-is,
+        length-append (controlHead ++ namedWords) extraWordsBuilt,
+        front-words,
+        all,
+        count-none (λ (i : ℕ). isPresent (c .structure (namedCount + i))),
+      )
+
+  -- the start of a named slot's structure, as Control has it, and of an extra's
+  pub start-word-lies : (k : ℕ) → k < namedCount → Lies (controlBytes c) (8 + 2 * k) (le16 (startBuilt c k))
   unfolding controlBytes
   start-word-lies k h =
-      gather-ends (λ (k : ℕ). le16 (startBuilt c k)) (λ (k : ℕ). 8 + 2 * k) (startBytes control 0 ++ (c .flags ∷ le16 0)) 0 slotCount
+      gather-lies (λ (k : ℕ). le16 (startBuilt c k)) (λ (k : ℕ). 8 + 2 * k) (controlStart (extrasBuilt c) ++ (c .flags ∷ le16 0)) (gather (extraWord c) namedCount mostWords) 0 namedCount
       (λ k l h. omega arith) refl k (omega arith) (omega arith)
+
+  pub extra-word-lies : (k : ℕ) → namedCount ≤ k → k < slotCount → isPresent (c .structure k) ≡ true
+      → Lies (controlBytes c) (wordPlace k) (le16 (startBuilt c k))
+  unfolding wordPlace extraWordsBuilt extraWord
+  extra-word-lies k l h on =
+      let word : extraWord c k ≡ le16 (startBuilt c k) = rw on in
+      subst (λ (x : List ℕ). Lies x (wordPlace k) (le16 (startBuilt c k))) (sym control-is)
+      (subst (λ (x : List ℕ). Lies ((controlHead ++ namedWords) ++ gather (extraWord c) namedCount mostWords) (wordPlace k) x) word
+      (gather-ends (extraWord c) wordPlace (controlHead ++ namedWords) namedCount mostWords (λ k l h. extra-next k l)
+      (front-words ∙ sym first) k l (omega arith)))
+    where
+      first : wordPlace namedCount ≡ 18
+      first = omega (arith, count-none (λ (i : ℕ). isPresent (c .structure (namedCount + i))))
 
 -- ---- the structures, each behind its gap
 
@@ -140,7 +206,7 @@ module _ (c : Content) (good : Good c) where
   front-length : length (headerBytes c) ≡ 48
   front-length = header-length c (good .oem-id) (good .oem-table-id)
 
-  structures-length : controlEnd + length structures ≡ heapStart c
+  structures-length : controlEnd (extrasBuilt c) + length structures ≡ heapStart c
   unfolding structures heapStart
   structures-length =
       omega (arith, gather-length (stretch c) (endBuilt c) 0 slotCount (λ j l h. stretch-length j (omega arith)), end-first c)
@@ -184,10 +250,10 @@ module _ (c : Content) (good : Good c) where
   pub heap-lies : Lies (bareTable c) (heapStart c) (heapTo entryCount every (c .entry) entryCount)
   unfolding bareTable structures heap
   heap-lies =
-      let place : 48 + (18 + length structures) ≡ heapStart c = omega (arith, structures-length) in
+      let place : 48 + (18 + 2 * extrasBuilt c + length structures) ≡ heapStart c = omega (arith, structures-length) in
       rw place at
-      (lies-behind (headerBytes c) (controlBytes c ++ (structures ++ heap)) heap 48 (18 + length structures) front-length
-      (lies-behind (controlBytes c) (structures ++ heap) heap 18 (length structures) (control-length c)
+      (lies-behind (headerBytes c) (controlBytes c ++ (structures ++ heap)) heap 48 (18 + 2 * extrasBuilt c + length structures) front-length
+      (lies-behind (controlBytes c) (structures ++ heap) heap (18 + 2 * extrasBuilt c) (length structures) (control-length c)
       (lies-last structures heap (length structures) refl)))
 
   -- the structure of turn j stands behind its gap

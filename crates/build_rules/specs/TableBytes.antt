@@ -1,18 +1,19 @@
 -- The table of a record, byte by byte; gaps and reserved bytes are zero, the checksum comes last.
 -- Assumes nothing: these are definitions.
-use Prim.Native.Nat.{ℕ, _-_}
+use Prim.Native.Nat.{ℕ, _+_, _*_, _-_}
 use mathlib.Core.List.{List, [], _∷_, _++_}
 use mathlib.Core.Option.{Option, none, some}
+use mathlib.Core.Bool.{cond}
 use lib.ListN.{length, set}
 use Rattle.octets.specs.Counting.{gather}
 use Rattle.octets.specs.Octets.{le16, le32, zeros, checksum}
 use Rattle.string_heap.specs.Stored.{every}
 use Rattle.string_heap.specs.Places.{len, heapTo}
 use Rattle.string_heap.specs.Starts.{align8}
-use Rattle.ibft_table.specs.Layout.{Kind, control, kindOf, indexOf, firstEntry, slotCount, entryCount, builtSlot}
+use Rattle.ibft_table.specs.Layout.{Kind, control, kindOf, firstEntry, slotCount, entryCount, namedCount, mostWords, builtSlot}
 use Rattle.ibft_table.specs.Shapes.{shapeOf, shapeStart}
 use Rattle.ibft_table.specs.Record.{Content}
-use Rattle.build_rules.specs.Plan.{endBuilt, startBuilt, lengthBuilt, offsetBuilt}
+use Rattle.build_rules.specs.Plan.{isPresent, extrasBuilt, endBuilt, startBuilt, lengthBuilt, offsetBuilt}
 
 -- signature `iBFT`, Length, Revision 1, Checksum (not yet set), OEMID, OEM Table ID, reserved
 unfoldable pub headerBytes : Content → List ℕ
@@ -22,9 +23,20 @@ headerBytes c = 105 ∷ 66 ∷ 70 ∷ 84 ∷ (le32 (lengthBuilt c) ++ (1 ∷ 0 �
 abbrev pub startBytes : Kind → ℕ → List ℕ
 startBytes kind index = shapeStart (shapeOf kind) index
 
--- Control: its flags, the Extensions word 0, then the starts slot by slot
+-- that of Control with so many extra words
+abbrev pub controlStart : ℕ → List ℕ
+controlStart extras = control .id ∷ control .version ∷ (le16 (control .length + 2 * extras) ++ (0 ∷ []))
+
+-- the word of an extra slot that is in use
+unfoldable pub extraWord : Content → ℕ → List ℕ
+extraWord c k = cond (isPresent (c .structure k)) (le16 (startBuilt c k)) []
+
+-- Control: its flags, the Extensions word 0, the starts of the named slots, then those of the extras, in slot order
 unfoldable pub controlBytes : Content → List ℕ
-controlBytes c = startBytes control 0 ++ (c .flags ∷ (le16 0 ++ gather (λ (k : ℕ). le16 (startBuilt c k)) 0 slotCount))
+controlBytes c =
+    controlStart (extrasBuilt c)
+    ++ (c .flags
+    ∷ (le16 0 ++ (gather (λ (k : ℕ). le16 (startBuilt c k)) 0 namedCount ++ gather (extraWord c) namedCount mostWords)))
 
 -- entry n's length and offset
 unfoldable pub wordsBuilt : Content → ℕ → List ℕ
@@ -33,7 +45,7 @@ wordsBuilt c n = le16 (len (c .entry n)) ++ le16 (offsetBuilt c n)
 -- slot k's structure with these flags and fields
 unfoldable pub structureBytes : Content → ℕ → List ℕ → List ℕ
 structureBytes c k body =
-    startBytes (kindOf k) (indexOf k) ++ (body ++ gather (wordsBuilt c) (firstEntry k) (length ((kindOf k) .stringFields)))
+    startBytes (kindOf k) (c .index k) ++ (body ++ gather (wordsBuilt c) (firstEntry k) (length ((kindOf k) .stringFields)))
 
 -- the gap and the structure that are j-th in the build's order, nothing where it is absent
 unfoldable pub stretchAs : Content → ℕ → Option (List ℕ) → List ℕ

@@ -1,8 +1,9 @@
 -- Laws of the storing rule over the entries of a record range, each shaped like what the code returns.
 --     tail-first                                   an entry whose first byte differs is no tail
 --     covered-short, covered-late, covered-tail    whether entry j makes it needless to store another
+--     covered-none                                 none does, where none below the limit does
 --     stored-missing, stored-is                    whether an entry is stored
---     size-stored, size-none                       what an entry takes in the heap
+--     size-stored, size-none, size-past            what an entry takes in the heap
 -- Assumes nothing.
 use mathlib.Core.Path.{_≡_, refl, sym, ap, ap₂, _∙_}
 use mathlib.Core.Bool.{Bool, true, false, not, _&&_, _||_}
@@ -17,15 +18,17 @@ use lib.ListN.{length}
 use borrow.Author.Tests.{lt-ltb, le-ltb}
 use Rattle.octets.specs.Octets.{byte, part}
 use Rattle.octets.specs.Counting.{any}
-use Rattle.octets.proofs.CountingLaws.{clash}
+use Rattle.octets.proofs.CountingLaws.{clash, any-no}
+use Rattle.octets.proofs.CutLaws.{any-cut}
 use Rattle.octets.proofs.ReadLaws.{part-length, part-at}
 use Rattle.string_heap.specs.Tails.{isTail}
 use Rattle.string_heap.proofs.TailsLaws.{isTail-long, isTail-first}
 use Rattle.string_heap.specs.Stored.{Entry, every, covers, coveredBy, stored, storedAs, ofStored}
 use Rattle.ibft_table.specs.Layout.{entryCount}
 use Rattle.build_rules.specs.RecordRange.{startGiven}
-use Rattle.ibft_build.specs.Planning.{Readable, entriesGiven, wantedGiven, sizeGiven}
-use Rattle.ibft_build.proofs.EntryLaws.{entry-none, wanted-missing, lies-at}
+use Rattle.ibft_build.specs.Planning.{Readable, entryLimit, entriesGiven, wantedGiven, sizeGiven}
+use Rattle.ibft_build.proofs.RecordLaws.{entry-limit-most}
+use Rattle.ibft_build.proofs.EntryLaws.{entry-none, entries-past, wanted-past, wanted-missing, lies-at}
 
 -- an entry whose first byte differs from the other's as far from the end
 pub tail-first : (s : List ℕ) (start size other m : ℕ) → start + size ≤ length s → other + m ≤ length s → 0 < size → size ≤ m
@@ -91,42 +94,54 @@ module _ (r s : List ℕ) (i start size j : ℕ) (sound : Readable r s) (fits : 
                 (lt-ltb j i (lower (omega arith)))
           ]
 
+-- entries from the limit on are missing, and cover none
+pub covered-none : (r s : List ℕ) (i : ℕ) (a : List ℕ) → ((j : ℕ) → j < entryLimit r → coveredBy every i a j (entriesGiven r s j) ≡ false)
+    → false ≡ any entryCount (λ (j : ℕ). coveredBy every i a j (entriesGiven r s j))
+unfolding coveredBy
+covered-none r s i a below =
+    let p : ℕ → Bool = λ j. coveredBy every i a j (entriesGiven r s j) in
+    sym (any-cut (entryLimit r) entryCount p (entry-limit-most r) (λ j l h. ap (coveredBy every i a j) (entries-past r s j l))
+    ∙ any-no (entryLimit r) p below)
+
 -- ---- whether entry i is stored: it wants w and starts at `start`
 
 module _ (r s : List ℕ) (i w : ℕ) (want : w ≡ wantedGiven r i) where
-  pub stored-missing : w ≡ 0 → false ≡ stored 13 every (entriesGiven r s) i
+  pub stored-missing : w ≡ 0 → false ≡ stored entryCount every (entriesGiven r s) i
   unfolding storedAs
-  stored-missing e = sym (ap (storedAs 13 every (entriesGiven r s) i) (entry-none r s i (wanted-missing r i (omega arith))))
+  stored-missing e = sym (ap (storedAs entryCount every (entriesGiven r s) i) (entry-none r s i (wanted-missing r i (omega arith))))
 
   pub stored-is : Readable r s → i < entryCount → 0 < w → (start : ℕ) → start ≡ startGiven r i → (t : Bool)
-      → t ≡ any 13 (λ (j : ℕ). coveredBy every i (part s start (w - 1)) j (entriesGiven r s j)) → not t ≡ stored 13 every (entriesGiven r s) i
+      → t ≡ any entryCount (λ (j : ℕ). coveredBy every i (part s start (w - 1)) j (entriesGiven r s j)) → not t ≡ stored entryCount every (entriesGiven r s) i
   unfolding storedAs
   stored-is sound h pos start at t e =
-      ap not e ∙ sym (ap (storedAs 13 every (entriesGiven r s) i) (lies-at r s i sound h w start want pos at .is))
+      ap not e ∙ sym (ap (storedAs entryCount every (entriesGiven r s) i) (lies-at r s i sound h w start want pos at .is))
 
   -- what a stored entry takes is what it wants
-  pub stored-given : stored 13 every (entriesGiven r s) i ≡ true → 0 < w
+  pub stored-given : stored entryCount every (entriesGiven r s) i ≡ true → 0 < w
   stored-given st =
       elim (decLt 0 w) [
         | yes pos ↦ pos
         | no l ↦ clash st (sym (stored-missing (omega arith)))
       ]
 
-  pub size-stored : Readable r s → i < entryCount → (t : Bool) → t ≡ stored 13 every (entriesGiven r s) i → t ≡ true → (w ≡ sizeGiven r s i) × (w ≤ 256)
+  pub size-stored : Readable r s → i < entryCount → (t : Bool) → t ≡ stored entryCount every (entriesGiven r s) i → t ≡ true → w ≡ sizeGiven r s i
   unfolding sizeGiven ofStored
   size-stored sound h t e on =
-      let st : stored 13 every (entriesGiven r s) i ≡ true = sym e ∙ on in
+      let st : stored entryCount every (entriesGiven r s) i ≡ true = sym e ∙ on in
       let lies = lies-at r s i sound h w (startGiven r i) want (stored-given st) refl in
-      let whole : length (part s (startGiven r i) (w - 1)) + 1 ≡ w = omega (arith, lies .length-is, stored-given st) in (
-        sym (ap₂ (λ (o : Entry) (b : Bool). ofStored o b (λ (a : List ℕ). length a + 1)) (lies .is) st ∙ whole),
-        lies .small,
-      )
+      let whole : length (part s (startGiven r i) (w - 1)) + 1 ≡ w = omega (arith, lies .length-is, stored-given st) in
+      sym (ap₂ (λ (o : Entry) (b : Bool). ofStored o b (λ (a : List ℕ). length a + 1)) (lies .is) st ∙ whole)
 
-pub size-none : (r s : List ℕ) (i : ℕ) (t : Bool) → t ≡ stored 13 every (entriesGiven r s) i → t ≡ false → 0 ≡ sizeGiven r s i
+pub size-none : (r s : List ℕ) (i : ℕ) (t : Bool) → t ≡ stored entryCount every (entriesGiven r s) i → t ≡ false → 0 ≡ sizeGiven r s i
 unfolding sizeGiven ofStored
-size-none r s i t e off = sym (go (entriesGiven r s i) (stored 13 every (entriesGiven r s) i) (sym e ∙ off))
+size-none r s i t e off = sym (go (entriesGiven r s i) (stored entryCount every (entriesGiven r s) i) (sym e ∙ off))
   where
     go : (o : Entry) (b : Bool) → b ≡ false → ofStored o b (λ (a : List ℕ). length a + 1) ≡ 0
     go none b q = refl
     go (some a) true q = clash refl q
     go (some a) false q = refl
+
+pub size-past : (r s : List ℕ) (i : ℕ) → entryLimit r ≤ i → sizeGiven r s i ≡ 0
+size-past r s i h =
+    sym (size-none r s i (stored entryCount every (entriesGiven r s) i) refl
+    (sym (stored-missing r s i (wantedGiven r i) refl (wanted-past r i h))))

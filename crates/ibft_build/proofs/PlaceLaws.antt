@@ -4,9 +4,10 @@
 --     sizes-sum                    their sum is the heap's up to there
 --     size-kept, size-gone         whether an entry is stored, by what it takes
 --     host-not, host-tail          whether an entry holds another
---     host-first                   the first that does
+--     host-first                   the first that does, which is below the limit
 --     place-self, place-host       where an entry stands
 --     offset-on, offset-off        its offset
+--     offset-past                  from the limit on it has none
 -- Assumes nothing.
 use mathlib.Core.Path.{_≡_, refl, sym, ap, ap₂, _∙_}
 use mathlib.Core.Bool.{Bool, true, false, _&&_, _||_}
@@ -17,24 +18,26 @@ use native.Mathlib.Decide.{decLt}
 use native.Mathlib.Omega.{arith}
 use lib.Dec.{eqb}
 use lib.ListN.{length, getD}
-use Rattle.octets.specs.Counting.{sumTo}
+use Rattle.octets.specs.Counting.{first, sumTo}
 use Rattle.octets.specs.Octets.{part}
-use Rattle.octets.proofs.CountingLaws.{first-is}
+use Rattle.octets.proofs.CountingLaws.{first-is, length-tabulate, getD-tabulate}
+use Rattle.octets.proofs.CutLaws.{first-cut}
 use Rattle.octets.proofs.ReadLaws.{part-length}
+use Rattle.octets.proofs.TestLaws.{and-no}
 use Rattle.string_heap.specs.Tails.{isTail}
 use Rattle.string_heap.proofs.TailsLaws.{isTail-long}
 use Rattle.string_heap.specs.Stored.{Entry, every, stored, ofStored, size, heapSize}
 use Rattle.string_heap.specs.Places.{len, endsWith, holds, host, place}
 use Rattle.string_heap.proofs.Intervals.{sumTo-le}
 use Rattle.string_heap.proofs.HostLaws.{hosted, host-self, placed}
-use Rattle.ibft_table.specs.Layout.{entryCount, slotCount}
+use Rattle.ibft_table.specs.Layout.{entryCount}
 use Rattle.build_rules.specs.RecordRange.{entryGiven, lengthGiven, startGiven, bytesGiven, contentGiven}
 use Rattle.build_rules.specs.Plan.{heapStart, offsetAs, offsetBuilt}
-use Rattle.ibft_build.specs.Planning.{Readable, entriesGiven, wantedGiven, sizeGiven, heapSizes}
-use Rattle.ibft_build.proofs.ListLaws.{length-tabulate, getD-tabulate}
-use Rattle.ibft_build.proofs.EntryLaws.{entry-some, entry-none, Lies, lies-at}
+use Rattle.build_rules.proofs.BoundLaws.{heap-start-bound}
+use Rattle.ibft_build.specs.Planning.{Readable, entryLimit, entriesGiven, wantedGiven, sizeGiven, heapSizes}
+use Rattle.ibft_build.proofs.RecordLaws.{entry-past, entry-limit-most}
+use Rattle.ibft_build.proofs.EntryLaws.{entry-some, entry-none, entries-past, wanted-on, Lies, lies-at}
 use Rattle.ibft_build.proofs.CoverLaws.{stored-given, size-stored, size-none}
-use Rattle.ibft_build.proofs.StartLaws.{end-bound, end-built}
 
 -- ---- sums
 
@@ -61,7 +64,7 @@ sum-const c (suc k) = omega (arith, sum-const c k)
 module _ (r s sizes : List ℕ) (are : sizes ≡ heapSizes r s) where
   pub sizes-at : (n : ℕ) → n < entryCount → getD sizes n 0 ≡ sizeGiven r s n
   unfolding heapSizes
-  sizes-at n h = ap (λ (l : List ℕ). getD l n 0) are ∙ getD-tabulate (sizeGiven r s) 0 entryCount n h
+  sizes-at n h = ap (λ (l : List ℕ). getD l n 0) are ∙ getD-tabulate (sizeGiven r s) entryCount n 0 h
 
   pub sizes-count : length sizes ≡ entryCount
   unfolding heapSizes
@@ -71,26 +74,26 @@ module _ (r s sizes : List ℕ) (are : sizes ≡ heapSizes r s) where
   sizes-sum k h m e = e ∙ sum-same (λ (j : ℕ). getD sizes j 0) (sizeGiven r s) k (λ j l. sizes-at j (omega arith))
 
 module _ (r s : List ℕ) (n : ℕ) where
-  pub size-kept : 0 < sizeGiven r s n → stored 13 every (entriesGiven r s) n ≡ true
-  size-kept h = go (stored 13 every (entriesGiven r s) n) refl
+  pub size-kept : 0 < sizeGiven r s n → stored entryCount every (entriesGiven r s) n ≡ true
+  size-kept h = go (stored entryCount every (entriesGiven r s) n) refl
     where
-      go : (b : Bool) → stored 13 every (entriesGiven r s) n ≡ b → b ≡ true
+      go : (b : Bool) → stored entryCount every (entriesGiven r s) n ≡ b → b ≡ true
       go true e = refl
-      go false e = absurd (omega (arith, size-none r s n (stored 13 every (entriesGiven r s) n) refl e))
+      go false e = absurd (omega (arith, size-none r s n (stored entryCount every (entriesGiven r s) n) refl e))
 
-  pub size-gone : Readable r s → n < entryCount → sizeGiven r s n ≡ 0 → stored 13 every (entriesGiven r s) n ≡ false
-  size-gone sound h zero-size = go (stored 13 every (entriesGiven r s) n) refl
+  pub size-gone : Readable r s → n < entryCount → sizeGiven r s n ≡ 0 → stored entryCount every (entriesGiven r s) n ≡ false
+  size-gone sound h zero-size = go (stored entryCount every (entriesGiven r s) n) refl
     where
-      go : (b : Bool) → stored 13 every (entriesGiven r s) n ≡ b → b ≡ false
+      go : (b : Bool) → stored entryCount every (entriesGiven r s) n ≡ b → b ≡ false
       go true st =
-          absurd (omega (arith, stored-given r s n (wantedGiven r n) refl st, size-stored r s n (wantedGiven r n) refl sound h (stored 13 every (entriesGiven r s) n) refl st .0))
+          absurd (omega (arith, stored-given r s n (wantedGiven r n) refl st, size-stored r s n (wantedGiven r n) refl sound h (stored entryCount every (entriesGiven r s) n) refl st))
       go false st = refl
 
   -- an entry that is stored, w what it takes
   pub size-lies : Readable r s → n < entryCount → (w : ℕ) → w ≡ sizeGiven r s n → 0 < w → (start : ℕ) → start ≡ startGiven r n → Lies r s n w start
   size-lies sound h w e pos start at =
       let st = size-kept (omega arith) in
-      let is = size-stored r s n (wantedGiven r n) refl sound h (stored 13 every (entriesGiven r s) n) refl st .0 in
+      let is = size-stored r s n (wantedGiven r n) refl sound h (stored entryCount every (entriesGiven r s) n) refl st in
       lies-at r s n sound h w start (e ∙ sym is) pos at
 
   pub size-small : Readable r s → n < entryCount → sizeGiven r s n ≤ 256
@@ -100,45 +103,47 @@ module _ (r s : List ℕ) (n : ℕ) where
         | no l ↦ omega arith
       ]
 
-pub heap-small : (r s : List ℕ) → Readable r s → heapSize 13 every (entriesGiven r s) ≤ 3328
+pub heap-small : (r s : List ℕ) → Readable r s → heapSize entryCount every (entriesGiven r s) ≤ 12544
 unfolding heapSize sizeGiven
 heap-small r s sound =
-    omega (arith, sumTo-le 13 (sizeGiven r s) (λ (j : ℕ). 256) (λ j h. size-small r s j sound h), sum-const 256 13)
+    omega (arith, sumTo-le entryCount (sizeGiven r s) (λ (j : ℕ). 256) (λ j h. size-small r s j sound h), sum-const 256 entryCount)
 
 -- ---- hosts
 
-and-no : (x y : Bool) → y ≡ false → (x && y) ≡ false
-and-no true y e = e
-and-no false y e = refl
-
 -- entry j takes w
 module _ (r s : List ℕ) (sound : Readable r s) (start size : ℕ) (fits : start + size ≤ length s) (j : ℕ) (h : j < entryCount) (w : ℕ) (takes : w ≡ sizeGiven r s j) where
-  pub host-not : w ≤ size → false ≡ (stored 13 every (entriesGiven r s) j && endsWith (part s start size) (entriesGiven r s j))
+  pub host-not : w ≤ size → false ≡ (stored entryCount every (entriesGiven r s) j && endsWith (part s start size) (entriesGiven r s j))
   unfolding endsWith
   host-not l =
       elim (decLt 0 w) [
         | yes pos ↦
             let lies = size-lies r s j sound h w takes pos (startGiven r j) refl in
             let short = isTail-long (part s start size) (part s (startGiven r j) (w - 1)) (omega (arith, lies .length-is, part-length s start size fits)) in
-            sym (and-no (stored 13 every (entriesGiven r s) j) (endsWith (part s start size) (entriesGiven r s j)) (ap (endsWith (part s start size)) (lies .is) ∙ short))
+            sym (and-no (stored entryCount every (entriesGiven r s) j) (endsWith (part s start size) (entriesGiven r s j)) (λ kept. ap (endsWith (part s start size)) (lies .is) ∙ short))
         | no m ↦ sym (ap (λ (b : Bool). b && endsWith (part s start size) (entriesGiven r s j)) (size-gone r s j sound h (omega arith)))
       ]
 
   pub host-tail : size < w → (at : ℕ) → at ≡ startGiven r j → (t : Bool) → t ≡ isTail (part s start size) (part s at (w - 1))
-      → t ≡ (stored 13 every (entriesGiven r s) j && endsWith (part s start size) (entriesGiven r s j))
+      → t ≡ (stored entryCount every (entriesGiven r s) j && endsWith (part s start size) (entriesGiven r s j))
   unfolding endsWith
   host-tail l at e t is =
       let lies = size-lies r s j sound h w takes (omega arith) at e in
       is ∙ sym (ap₂ (λ (b : Bool) (o : Entry). b && endsWith (part s start size) o) (size-kept r s j (omega arith)) (lies .is))
 
-pub host-first : (r s : List ℕ) (i start size j : ℕ) → start ≡ startGiven r i → size ≡ lengthGiven r i → j ≤ 13
-    → ((k : ℕ) → k < j → (stored 13 every (entriesGiven r s) k && endsWith (part s start size) (entriesGiven r s k)) ≡ false)
-    → (j < 13 → (stored 13 every (entriesGiven r s) j && endsWith (part s start size) (entriesGiven r s j)) ≡ true)
-    → j ≡ host 13 every (entriesGiven r s) i (bytesGiven r s i)
-unfolding host holds bytesGiven
-host-first r s i start size j p q h before here =
-    sym (ap₂ (λ (a n : ℕ). host 13 every (entriesGiven r s) i (part s a n)) (sym p) (sym q)
-    ∙ first-is 13 (holds 13 every (entriesGiven r s) i (part s start size)) j h (λ k l. both k ∙ before k l) (λ l. both j ∙ here l))
+-- entries from the limit on are missing, and hold none; but there is one that does
+pub host-first : (r s : List ℕ) (i : ℕ) → i < entryCount → entryGiven r i ≡ true → (start size j : ℕ) → start ≡ startGiven r i → size ≡ lengthGiven r i → j ≤ entryLimit r
+    → ((k : ℕ) → k < j → (stored entryCount every (entriesGiven r s) k && endsWith (part s start size) (entriesGiven r s k)) ≡ false)
+    → (t : Bool) → t ≡ (stored entryCount every (entriesGiven r s) j && endsWith (part s start size) (entriesGiven r s j)) → (j < entryLimit r → t ≡ true)
+    → j ≡ host entryCount every (entriesGiven r s) i (bytesGiven r s i)
+unfolding host holds endsWith bytesGiven
+host-first r s i low given start size j p q h before t is here =
+    let test : ℕ → Bool = holds entryCount every (entriesGiven r s) i (part s start size) in
+    let own : host entryCount every (entriesGiven r s) i (bytesGiven r s i) ≡ first entryCount test =
+    ap₂ (λ (a n : ℕ). host entryCount every (entriesGiven r s) i (part s a n)) (sym p) (sym q) in
+    let below = hosted entryCount every (entriesGiven r s) i (bytesGiven r s i) low (entry-some r s i given) .below in
+    sym (own
+    ∙ first-cut (entryLimit r) entryCount test (entry-limit-most r) (λ k l x. both k ∙ gone k l) (omega arith)
+    ∙ first-is (entryLimit r) test j h (λ k l. both k ∙ before k l) (λ l. both j ∙ sym is ∙ here l))
   where
     tidy : (x y z : Bool) → (x && y && (z || (true && true))) ≡ (x && y)
     tidy true true true = refl
@@ -146,8 +151,11 @@ host-first r s i start size j p q h before here =
     tidy true false z = refl
     tidy false y z = refl
 
-    both : (k : ℕ) → holds 13 every (entriesGiven r s) i (part s start size) k ≡ (stored 13 every (entriesGiven r s) k && endsWith (part s start size) (entriesGiven r s k))
-    both k = tidy (stored 13 every (entriesGiven r s) k) (endsWith (part s start size) (entriesGiven r s k)) (eqb i k)
+    both : (k : ℕ) → holds entryCount every (entriesGiven r s) i (part s start size) k ≡ (stored entryCount every (entriesGiven r s) k && endsWith (part s start size) (entriesGiven r s k))
+    both k = tidy (stored entryCount every (entriesGiven r s) k) (endsWith (part s start size) (entriesGiven r s k)) (eqb i k)
+
+    gone : (k : ℕ) → entryLimit r ≤ k → (stored entryCount every (entriesGiven r s) k && endsWith (part s start size) (entriesGiven r s k)) ≡ false
+    gone k l = and-no (stored entryCount every (entriesGiven r s) k) (endsWith (part s start size) (entriesGiven r s k)) (λ kept. ap (endsWith (part s start size)) (entries-past r s k l))
 
 -- ---- places
 
@@ -156,52 +164,52 @@ module _ (r s : List ℕ) (sound : Readable r s) (i : ℕ) (h : i < entryCount) 
   unfolding bytesGiven
   bytes-length = part-length s (startGiven r i) (lengthGiven r i) (sound .lies i h given)
 
-  pub place-self : 0 < sizeGiven r s i → (m : ℕ) → m ≡ sumTo i (sizeGiven r s) → m ≡ place 13 every (entriesGiven r s) i (bytesGiven r s i)
+  pub place-self : 0 < sizeGiven r s i → (m : ℕ) → m ≡ sumTo i (sizeGiven r s) → m ≡ place entryCount every (entriesGiven r s) i (bytesGiven r s i)
   unfolding place len sizeGiven
   place-self pos m e =
       let a : List ℕ = bytesGiven r s i in
       let is = entry-some r s i given in
-      let self : host 13 every (entriesGiven r s) i a ≡ i = host-self 13 every (entriesGiven r s) i a h is (size-kept r s i pos) in
-      let sum : sumTo (host 13 every (entriesGiven r s) i a) (sizeGiven r s) ≡ sumTo i (sizeGiven r s) = ap (λ (k : ℕ). sumTo k (sizeGiven r s)) self in
-      let own : len (entriesGiven r s (host 13 every (entriesGiven r s) i a)) ≡ length a = ap (λ (k : ℕ). len (entriesGiven r s k)) self ∙ ap len is in
+      let self : host entryCount every (entriesGiven r s) i a ≡ i = host-self entryCount every (entriesGiven r s) i a h is (size-kept r s i pos) in
+      let sum : sumTo (host entryCount every (entriesGiven r s) i a) (sizeGiven r s) ≡ sumTo i (sizeGiven r s) = ap (λ (k : ℕ). sumTo k (sizeGiven r s)) self in
+      let own : len (entriesGiven r s (host entryCount every (entriesGiven r s) i a)) ≡ length a = ap (λ (k : ℕ). len (entriesGiven r s k)) self ∙ ap len is in
       omega arith
 
-  pub host-below : (j : ℕ) → j ≡ host 13 every (entriesGiven r s) i (bytesGiven r s i) → j < entryCount
-  host-below j e = omega (arith, hosted 13 every (entriesGiven r s) i (bytesGiven r s i) h (entry-some r s i given) .below)
+  pub host-below : (j : ℕ) → j ≡ host entryCount every (entriesGiven r s) i (bytesGiven r s i) → j < entryCount
+  host-below j e = omega (arith, hosted entryCount every (entriesGiven r s) i (bytesGiven r s i) h (entry-some r s i given) .below)
 
-  pub place-host : (j : ℕ) → j ≡ host 13 every (entriesGiven r s) i (bytesGiven r s i) → (w l m : ℕ) → w ≡ sizeGiven r s j → l ≡ lengthGiven r i → m ≡ sumTo j (sizeGiven r s)
-      → (l + 1 ≤ w) × (m + (w - 1 - l) ≡ place 13 every (entriesGiven r s) i (bytesGiven r s i))
+  pub place-host : (j : ℕ) → j ≡ host entryCount every (entriesGiven r s) i (bytesGiven r s i) → (w u m : ℕ) → w ≡ sizeGiven r s j → u ≡ wantedGiven r i → m ≡ sumTo j (sizeGiven r s)
+      → (u ≤ w) × (m + (w - u) ≡ place entryCount every (entriesGiven r s) i (bytesGiven r s i))
   unfolding place len sizeGiven ofStored
-  place-host j e w l m ew el em =
+  place-host j e w u m ew eu em =
       let a : List ℕ = bytesGiven r s i in
-      let host-is = hosted 13 every (entriesGiven r s) i a h (entry-some r s i given) in
-      let k : ℕ = host 13 every (entriesGiven r s) i a in
+      let host-is = hosted entryCount every (entriesGiven r s) i a h (entry-some r s i given) in
+      let k : ℕ = host entryCount every (entriesGiven r s) i a in
       let size-is : sizeGiven r s k ≡ length (host-is .b) + 1 =
       ap₂ (λ (o : Entry) (b : Bool). ofStored o b (λ (x : List ℕ). length x + 1)) (host-is .is) (host-is .kept) in
       let own : len (entriesGiven r s k) ≡ length (host-is .b) = ap len (host-is .is) in
       let fits = host-is .ends .fits in
       let la = bytes-length in
+      let want = wanted-on r i given (lengthGiven r i) refl in
       let size-j : w ≡ sizeGiven r s k = ew ∙ ap (sizeGiven r s) e in
       let sum-j : m ≡ sumTo k (sizeGiven r s) = em ∙ ap (λ (x : ℕ). sumTo x (sizeGiven r s)) e in
       (omega arith, omega arith)
 
 -- ---- offsets
 
-pub heap-start-small : (r s : List ℕ) → heapStart (contentGiven r s) ≤ 611
-unfolding heapStart
-heap-start-small r s = omega (arith, end-built r s slotCount, end-bound r slotCount)
-
 module _ (r s : List ℕ) (i : ℕ) where
   pub offset-on : Readable r s → i < entryCount → entryGiven r i ≡ true → (heap p : ℕ) → heap ≡ heapStart (contentGiven r s)
-      → p ≡ place 13 every (entriesGiven r s) i (bytesGiven r s i) → (p ≤ 3328) × (heap ≤ 611) × (heap + p ≡ offsetBuilt (contentGiven r s) i)
+      → p ≡ place entryCount every (entriesGiven r s) i (bytesGiven r s i) → (p ≤ 12544) × (heap ≤ 1454) × (heap + p ≡ offsetBuilt (contentGiven r s) i)
   unfolding offsetBuilt offsetAs
   offset-on sound h given heap p eh ep =
-      let stands = placed 13 every (entriesGiven r s) i (bytesGiven r s i) h (entry-some r s i given) in (
+      let stands = placed entryCount every (entriesGiven r s) i (bytesGiven r s i) h (entry-some r s i given) in (
         omega (arith, stands .high, heap-small r s sound),
-        omega (arith, heap-start-small r s),
+        omega (arith, heap-start-bound (contentGiven r s)),
         ap₂ (λ (x y : ℕ). x + y) eh ep ∙ sym (ap (offsetAs (contentGiven r s) i) (entry-some r s i given)),
       )
 
   pub offset-off : entryGiven r i ≡ false → 0 ≡ offsetBuilt (contentGiven r s) i
   unfolding offsetBuilt offsetAs
   offset-off off = sym (ap (offsetAs (contentGiven r s) i) (entry-none r s i off))
+
+  pub offset-past : entryLimit r ≤ i → offsetBuilt (contentGiven r s) i ≡ 0
+  offset-past h = sym (offset-off (entry-past r i h))

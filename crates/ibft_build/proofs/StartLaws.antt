@@ -1,45 +1,63 @@
 -- Laws of where structures stand.
---     built-past, turn-past     past the last slot
+--     built-past, built-below   the build's order names slots only
+--     extra-turn                the turns of extras: from 3 to 8 and from 11 on
+--     turn-le, turn-past        a slot's turn; past the last slot
 --     after-on, after-off       the end behind one more structure, as the code returns it
 --     end-first, end-more       the end before any structure, and behind one more
---     end-bound, end-grows      no end lies far out; they grow
+--     present-given, extras-built, end-built, start-built     the content's structures, extras and places are the range's
+--     end-grows, end-bound      ends grow, and none lies far out
 --     ends-at, ends-count       what stands in the list of the ends
 --     start-on, start-off       the start of a structure, as the code returns it
---     end-built, start-built    these are the plan's places
 -- Assumes nothing.
 use mathlib.Core.Path.{_≡_, refl, sym, ap, ap₂, _∙_}
-use mathlib.Core.Bool.{Bool, true, false, cond}
-use mathlib.Core.List.{List}
-use Prim.Native.Nat.{ℕ, zero, suc, _+_, _*_, _≤_, _<_}
+use mathlib.Core.Bool.{Bool, true, false, cond, not, _&&_, _||_}
+use mathlib.Core.List.{List, []}
+use Prim.Native.Nat.{ℕ, zero, suc, _+_, _≤_, _<_}
 use native.Mathlib.Numerals.{add-one}
 use native.Mathlib.Decide.{decLt}
 use native.Mathlib.Omega.{arith}
-use lib.Dec.{eqb}
+use lib.Dec.{eqb, ltb, leb}
 use lib.ListN.{length, getD, List·getD-eq-default}
-use borrow.Author.Tests.{ne-eqb}
-use Rattle.octets.proofs.CountingLaws.{first-le, first-is}
+use borrow.Author.Tests.{ne-eqb, le-ltb, leb-true}
+use Rattle.octets.specs.Counting.{any, count}
+use Rattle.octets.proofs.CountingLaws.{each-holds, first-le, first-is, length-tabulate, getD-tabulate}
+use Rattle.octets.proofs.TestLaws.{and-no}
 use Rattle.string_heap.specs.Starts.{align8, endTo}
-use Rattle.ibft_table.specs.Layout.{slotOf, kindOf, slotCount, builtOrder, builtSlot}
+use Rattle.ibft_table.specs.Layout.{kindOf, slotCount, namedCount, mostWords, controlEnd, builtOrder, builtSlot}
 use Rattle.ibft_table.specs.Record.{shownIf}
+use Rattle.ibft_table.specs.Computing.{computing}
+use Rattle.ibft_laws.proofs.LayoutLaws.{built-fits}
 use Rattle.build_rules.specs.RecordRange.{structureGiven, contentGiven}
-use Rattle.build_rules.specs.Plan.{isPresent, turnOf, endBuilt, startBuilt}
-use Rattle.ibft_build.specs.Planning.{endGiven, structureEnds, structureStart}
-use Rattle.ibft_build.proofs.ListLaws.{length-tabulate, getD-tabulate}
+use Rattle.build_rules.specs.Plan.{isPresent, extrasBuilt, turnOf, endBuilt, startBuilt, heapStart}
+use Rattle.build_rules.proofs.BoundLaws.{heap-start-bound}
+use Rattle.build_rules.proofs.PlanLaws.{end-grows as built-grows}
+use Rattle.ibft_build.specs.Planning.{extrasGiven, endGiven, structureEnds, structureStart}
 
 -- ---- the build's order
 
-pub built-past : (j : ℕ) → slotCount ≤ j → 0 ≡ builtSlot j
+pub built-past : (j : ℕ) → slotCount ≤ j → builtSlot j ≡ builtSlot 0
 unfolding builtSlot
-built-past j h = sym (List·getD-eq-default builtOrder 0 {n = j} h)
+built-past j h = List·getD-eq-default builtOrder 0 {n = j} h
 
 pub built-below : (j : ℕ) → builtSlot j < slotCount
-unfolding builtSlot
-built-below zero = omega arith
-built-below (suc zero) = omega arith
-built-below (suc (suc zero)) = omega arith
-built-below (suc (suc (suc zero))) = omega arith
-built-below (suc (suc (suc (suc zero)))) = omega arith
-built-below (suc (suc (suc (suc (suc j))))) = omega arith
+built-below j =
+    elim (decLt j slotCount) [
+      | yes l ↦ built-fits j l .slot
+      | no l ↦ omega (arith, built-past j (omega arith), built-fits 0 (omega arith) .slot)
+    ]
+
+turns-extra : any slotCount (λ (j : ℕ). not (ltb j 3 || (leb 9 j && ltb j 11) || leb namedCount (builtSlot j))) ≡ false
+unfolding computing
+turns-extra = refl
+
+pub extra-turn : (j : ℕ) → 3 ≤ j → j < slotCount → (9 ≤ j → 11 ≤ j) → namedCount ≤ builtSlot j
+extra-turn j low high apart =
+    leb-true namedCount (builtSlot j)
+    (sym (rw (le-ltb j 3 low, middle))
+    ∙ each-holds slotCount (λ (i : ℕ). ltb i 3 || (leb 9 i && ltb i 11) || leb namedCount (builtSlot i)) turns-extra j high)
+  where
+    middle : (leb 9 j && ltb j 11) ≡ false
+    middle = and-no (leb 9 j) (ltb j 11) (λ e. le-ltb j 11 (apart (leb-true 9 j e)))
 
 pub turn-le : (k : ℕ) → turnOf k ≤ slotCount
 unfolding turnOf
@@ -62,7 +80,7 @@ module _ (r : List ℕ) (j k e : ℕ) (slot : k ≡ builtSlot j) where
   pub after-off : structureGiven r k ≡ false → e ≡ cond (structureGiven r (builtSlot j)) (align8 e + (kindOf (builtSlot j)) .length) e
   after-off off = rw (← slot, off)
 
-pub end-first : (r : List ℕ) → 66 ≡ endGiven r 0
+pub end-first : (r : List ℕ) → controlEnd (extrasGiven r) ≡ endGiven r 0
 unfolding endGiven endTo
 end-first r = refl
 
@@ -72,66 +90,6 @@ unfolding endGiven endTo
 end-more r j e v at is =
     is ∙ ap (λ (m : ℕ). cond (structureGiven r (builtSlot j)) (align8 m + (kindOf (builtSlot j)) .length) m) at
     ∙ ap (endGiven r) (sym (add-one j))
-
--- no kind is longer than a NIC
-pub kind-length : (k : ℕ) → (kindOf k) .length ≤ 102
-unfolding kindOf slotOf
-kind-length zero = omega arith
-kind-length (suc zero) = omega arith
-kind-length (suc (suc zero)) = omega arith
-kind-length (suc (suc (suc zero))) = omega arith
-kind-length (suc (suc (suc (suc zero)))) = omega arith
-kind-length (suc (suc (suc (suc (suc k))))) = omega arith
-
-pub end-bound : (r : List ℕ) (j : ℕ) → endGiven r j ≤ 66 + 109 * j
-unfolding endGiven endTo
-end-bound r zero = omega arith
-end-bound r (suc j) = go (structureGiven r (builtSlot j)) (end-bound r j)
-  where
-    go : (b : Bool) → endGiven r j ≤ 66 + 109 * j → cond b (align8 (endGiven r j) + (kindOf (builtSlot j)) .length) (endGiven r j) ≤ 66 + 109 * suc j
-    go true h = omega (arith, kind-length (builtSlot j))
-    go false h = omega arith
-
--- ends grow along the build's order
-end-step : (r : List ℕ) (j : ℕ) → endGiven r j ≤ endGiven r (suc j)
-unfolding endGiven endTo
-end-step r j = go (structureGiven r (builtSlot j))
-  where
-    go : (b : Bool) → endGiven r j ≤ cond b (align8 (endGiven r j) + (kindOf (builtSlot j)) .length) (endGiven r j)
-    go true = omega arith
-    go false = omega arith
-
-pub end-grows : (r : List ℕ) (i j : ℕ) → i ≤ j → endGiven r i ≤ endGiven r j
-end-grows r i zero h = let z : i ≡ 0 = omega arith in rw z (omega arith)
-end-grows r i (suc j) h =
-    elim (decLt j i) [
-      | yes l ↦ let z : i ≡ suc j = omega arith in rw z (omega arith)
-      | no l ↦ omega (arith, end-grows r i j (omega arith), end-step r j)
-    ]
-
-module _ (r ends : List ℕ) (are : ends ≡ structureEnds r) where
-  pub ends-at : (j : ℕ) → j ≤ slotCount → getD ends j 0 ≡ endGiven r j
-  unfolding structureEnds
-  ends-at j h = ap (λ (l : List ℕ). getD l j 0) are ∙ getD-tabulate (endGiven r) 0 (slotCount + 1) j (omega arith)
-
-  pub ends-count : length ends ≡ 6
-  unfolding structureEnds
-  ends-count = ap length are ∙ length-tabulate (endGiven r) 0 (slotCount + 1)
-
-  pub ends-bound : (j : ℕ) → j ≤ slotCount → getD ends j 0 ≤ 611
-  ends-bound j h = omega (arith, ends-at j h, end-bound r j)
-
--- ---- starts
-
-module _ (r : List ℕ) (k : ℕ) where
-  pub start-on : structureGiven r k ≡ true → (e t : ℕ) → t ≡ turnOf k → e ≡ endGiven r t → (v : ℕ) → v ≡ align8 e → v ≡ structureStart r k
-  unfolding structureStart
-  start-on on e t turn end v is =
-      is ∙ ap (λ (m : ℕ). align8 m) (end ∙ ap (endGiven r) turn) ∙ sym (ap (λ (b : Bool). cond b (align8 (endGiven r (turnOf k))) 0) on)
-
-  pub start-off : structureGiven r k ≡ false → 0 ≡ structureStart r k
-  unfolding structureStart
-  start-off off = sym (ap (λ (b : Bool). cond b (align8 (endGiven r (turnOf k))) 0) off)
 
 -- ---- the plan's places
 
@@ -144,12 +102,48 @@ module _ (r s : List ℕ) where
       go b true = refl
       go b false = refl
 
+  pub extras-built : extrasBuilt (contentGiven r s) ≡ extrasGiven r
+  unfolding extrasBuilt extrasGiven
+  extras-built = ap (count mostWords) (λ i k. present-given (namedCount + k) i)
+
   pub end-built : (j : ℕ) → endBuilt (contentGiven r s) j ≡ endGiven r j
   unfolding endBuilt endGiven endTo
-  end-built zero = refl
+  end-built zero = ap (λ (n : ℕ). controlEnd n) extras-built
   end-built (suc j) =
       ap₂ (λ (on : Bool) (e : ℕ). cond on (align8 e + (kindOf (builtSlot j)) .length) e) (present-given (builtSlot j)) (end-built j)
 
   pub start-built : (k : ℕ) → startBuilt (contentGiven r s) k ≡ structureStart r k
   unfolding startBuilt structureStart
   start-built k = ap₂ (λ (on : Bool) (e : ℕ). cond on (align8 e) 0) (present-given k) (end-built (turnOf k))
+
+-- so they grow along the build's order, and all of them lie before the largest heap
+pub end-grows : (r : List ℕ) (i j : ℕ) → i ≤ j → endGiven r i ≤ endGiven r j
+end-grows r i j h = omega (arith, end-built r [] i, end-built r [] j, built-grows (contentGiven r []) i j h)
+
+pub end-bound : (r : List ℕ) (j : ℕ) → j ≤ slotCount → endGiven r j ≤ 1454
+unfolding heapStart
+end-bound r j h = omega (arith, end-grows r j slotCount h, end-built r [] slotCount, heap-start-bound (contentGiven r []))
+
+module _ (r ends : List ℕ) (are : ends ≡ structureEnds r) where
+  pub ends-at : (j : ℕ) → j ≤ slotCount → getD ends j 0 ≡ endGiven r j
+  unfolding structureEnds
+  ends-at j h = ap (λ (l : List ℕ). getD l j 0) are ∙ getD-tabulate (endGiven r) (slotCount + 1) j 0 (omega arith)
+
+  pub ends-count : length ends ≡ slotCount + 1
+  unfolding structureEnds
+  ends-count = ap length are ∙ length-tabulate (endGiven r) 0 (slotCount + 1)
+
+  pub ends-bound : (j : ℕ) → j ≤ slotCount → getD ends j 0 ≤ 1454
+  ends-bound j h = omega (arith, ends-at j h, end-bound r j h)
+
+-- ---- starts
+
+module _ (r : List ℕ) (k : ℕ) where
+  pub start-on : structureGiven r k ≡ true → (e t : ℕ) → t ≡ turnOf k → e ≡ endGiven r t → (v : ℕ) → v ≡ align8 e → v ≡ structureStart r k
+  unfolding structureStart
+  start-on on e t turn end v is =
+      is ∙ ap (λ (m : ℕ). align8 m) (end ∙ ap (endGiven r) turn) ∙ sym (ap (λ (b : Bool). cond b (align8 (endGiven r (turnOf k))) 0) on)
+
+  pub start-off : structureGiven r k ≡ false → 0 ≡ structureStart r k
+  unfolding structureStart
+  start-off off = sym (ap (λ (b : Bool). cond b (align8 (endGiven r (turnOf k))) 0) off)

@@ -3,24 +3,52 @@
 use mathlib.Core.Path.{_≡_}
 use mathlib.Core.List.{List}
 use mathlib.Core.Bool.{true, cond}
-use Prim.Native.Nat.{ℕ, _+_, _≤_, _<_}
+use Prim.Native.Nat.{ℕ, _+_, min, _≤_, _<_}
 use lib.ListN.{length}
-use Rattle.octets.specs.Counting.{tabulate}
+use lib.Dec.{eqb, ltb}
+use Rattle.octets.specs.Counting.{count, tabulate}
 use Rattle.string_heap.specs.Stored.{Entry, every, size}
 use Rattle.string_heap.specs.Starts.{align8, endTo}
-use Rattle.ibft_table.specs.Layout.{kindOf, slotCount, entryCount, controlEnd, builtSlot}
-use Rattle.build_rules.specs.RecordRange.{rangeSize, structureGiven, entryGiven, lengthGiven, startGiven, contentGiven}
+use Rattle.ibft_table.specs.Layout.{kindOf, slotCount, namedCount, extraMost, extraNics, extraTargets, mostWords, entryCount, ownerOf, stringOf, firstEntry, controlEnd, builtSlot}
+use Rattle.build_rules.specs.RecordRange.{baseSize, nicsGiven, targetsGiven, imageAt, structureGiven, entryGiven, lengthGiven, startGiven, contentGiven}
 use Rattle.build_rules.specs.Plan.{turnOf, lengthBuilt, offsetBuilt}
 use Rattle.build_rules.specs.Build.{answerOf, roomAfter}
 use Rattle.build_rules.specs.declared.Built.{Built}
 use Rattle.ibft_build.specs.declared.plan.Plan.{Plan}
 
+-- the range has the images of all that it gives
+pub record Whole (r : List ℕ) : Type 0 where
+  pub base : baseSize ≤ length r
+  pub images : (k : ℕ) → structureGiven r k ≡ true → imageAt r k + (kindOf k) .length ≤ length r
+
+-- no present entry is too long
+abbrev pub Short : List ℕ → Type 0
+Short r = (n : ℕ) → n < entryCount → entryGiven r n ≡ true → lengthGiven r n ≤ 255
+
 -- what the plan takes for granted, since the refusals come first: the range is whole, and each present entry lies in the strings
 -- range and is not too long
 pub record Readable (r s : List ℕ) : Type 0 where
-  pub whole : length r ≡ rangeSize
+  pub whole : Whole r
   pub lies : (n : ℕ) → n < entryCount → entryGiven r n ≡ true → startGiven r n + lengthGiven r n ≤ length s
-  pub short : (n : ℕ) → n < entryCount → entryGiven r n ≡ true → lengthGiven r n ≤ 255
+  pub short : Short r
+
+-- how many slots and how many entries there are to look at: those behind belong to extras that are not given
+unfoldable pub slotLimit : List ℕ → ℕ
+slotLimit r = cond (eqb (targetsGiven r) 0) (extraNics + min extraMost (nicsGiven r)) (extraTargets + min extraMost (targetsGiven r))
+
+unfoldable pub entryLimit : List ℕ → ℕ
+entryLimit r = firstEntry (slotLimit r)
+
+-- how many extras there are: Control has a word for each
+unfoldable pub extrasGiven : List ℕ → ℕ
+extrasGiven r = count mostWords (λ (i : ℕ). structureGiven r (namedCount + i))
+
+-- where the range holds the length of entry n, of those to look at; its start stands 2 further
+unfoldable pub fieldGiven : List ℕ → ℕ → ℕ
+fieldGiven r n = cond (ltb n (entryLimit r)) (imageAt r (ownerOf n) + (stringOf n) .at) 0
+
+unfoldable pub entryFields : List ℕ → List ℕ
+entryFields r = tabulate (fieldGiven r) 0 entryCount
 
 -- the entries
 abbrev pub entriesGiven : List ℕ → List ℕ → ℕ → Entry
@@ -46,7 +74,7 @@ entryOffsets r s = tabulate (offsetBuilt (contentGiven r s)) 0 entryCount
 
 -- where the first j structures of the build's order end, and all of these places
 unfoldable pub endGiven : List ℕ → ℕ → ℕ
-endGiven r j = endTo (λ (i : ℕ). structureGiven r (builtSlot i)) (λ (i : ℕ). (kindOf (builtSlot i)) .length) controlEnd j
+endGiven r j = endTo (λ (i : ℕ). structureGiven r (builtSlot i)) (λ (i : ℕ). (kindOf (builtSlot i)) .length) (controlEnd (extrasGiven r)) j
 
 unfoldable pub structureEnds : List ℕ → List ℕ
 structureEnds r = tabulate (endGiven r) 0 (slotCount + 1)
@@ -60,6 +88,8 @@ unfoldable pub planOf : List ℕ → List ℕ → Plan
 planOf r s =
     record {
       ends = structureEnds r;
+      fields = entryFields r;
+      wanted = wantedSizes r;
       sizes = heapSizes r s;
       offsets = entryOffsets r s;
       length = lengthBuilt (contentGiven r s);

@@ -7,11 +7,11 @@ use lib.ListN.{length, getD}
 use Rattle.octets.specs.Counting.{gather}
 use Rattle.octets.specs.Octets.{byte, part, le16, le32, zeros}
 use Rattle.string_heap.specs.Starts.{align8}
-use Rattle.ibft_table.specs.Layout.{control, kindOf, indexOf, firstEntry, slotCount, builtSlot}
+use Rattle.ibft_table.specs.Layout.{kindOf, firstEntry, namedCount, mostWords, builtSlot}
 use Rattle.ibft_table.specs.Record.{bodySize}
-use Rattle.build_rules.specs.RecordRange.{imageAt, structureGiven, entryGiven, lengthGiven}
-use Rattle.build_rules.specs.TableBytes.{startBytes}
-use Rattle.ibft_build.specs.Planning.{structureStart}
+use Rattle.build_rules.specs.RecordRange.{imageAt, structureGiven, indexGiven}
+use Rattle.build_rules.specs.TableBytes.{startBytes, controlStart}
+use Rattle.ibft_build.specs.Planning.{extrasGiven, structureStart}
 
 -- the header up to the OEM fields: signature `iBFT`, Length, Revision 1, Checksum (not yet set)
 abbrev pub headerStart : ℕ → List ℕ
@@ -22,32 +22,34 @@ unfoldable pub headerWith : List ℕ → ℕ → List ℕ
 headerWith r size = headerStart size ++ (part r 0 14 ++ zeros 24)
 
 -- Control up to its words for the slots: ID, Version, Length, Index, flags, Extensions
-abbrev pub controlStart : ℕ → List ℕ
-controlStart flags = startBytes control 0 ++ (flags ∷ le16 0)
+abbrev pub controlFront : ℕ → ℕ → List ℕ
+controlFront extras flags = controlStart extras ++ (flags ∷ le16 0)
 
+-- the word of a named slot; that of an extra slot, none where it is not in use
 unfoldable pub startWord : List ℕ → ℕ → List ℕ
 startWord r k = le16 (structureStart r k)
 
+unfoldable pub extraWordGiven : List ℕ → ℕ → List ℕ
+extraWordGiven r k = cond (structureGiven r k) (startWord r k) []
+
 unfoldable pub controlWith : List ℕ → List ℕ
-controlWith r = controlStart (byte r 14) ++ gather (startWord r) 0 slotCount
+controlWith r =
+    controlFront (extrasGiven r) (byte r 14)
+    ++ (gather (startWord r) 0 namedCount ++ gather (extraWordGiven r) namedCount mostWords)
 
--- entry n's length, 0 where it is missing
-unfoldable pub lengthWord : List ℕ → ℕ → ℕ
-lengthWord r n = cond (entryGiven r n) (lengthGiven r n) 0
-
--- entry n's length and offset
+-- entry n's length, by what it would take in the heap (0 where it is missing), and its offset
 unfoldable pub wordsWith : List ℕ → List ℕ → ℕ → List ℕ
-wordsWith r offsets n = le16 (lengthWord r n) ++ le16 (getD offsets n 0)
+wordsWith wanted offsets n = le16 (getD wanted n 0 - 1) ++ le16 (getD offsets n 0)
 
 -- slot k's structure
-unfoldable pub structureWith : List ℕ → List ℕ → ℕ → List ℕ
-structureWith r offsets k =
-    startBytes (kindOf k) (indexOf k)
-    ++ (part r (imageAt k + 5) (bodySize (kindOf k)) ++ gather (wordsWith r offsets) (firstEntry k) (length ((kindOf k) .stringFields)))
+unfoldable pub structureWith : List ℕ → List ℕ → List ℕ → ℕ → List ℕ
+structureWith r wanted offsets k =
+    startBytes (kindOf k) (indexGiven r k)
+    ++ (part r (imageAt r k + 5) (bodySize (kindOf k)) ++ gather (wordsWith wanted offsets) (firstEntry k) (length ((kindOf k) .stringFields)))
 
 -- the gap and the structure that are j-th in the build's order, nothing where it is absent
-unfoldable pub stretchWith : List ℕ → List ℕ → List ℕ → ℕ → List ℕ
-stretchWith r ends offsets j =
+unfoldable pub stretchWith : List ℕ → List ℕ → List ℕ → List ℕ → ℕ → List ℕ
+stretchWith r ends wanted offsets j =
     cond (structureGiven r (builtSlot j))
-    (zeros (align8 (getD ends j 0) - getD ends j 0) ++ structureWith r offsets (builtSlot j))
+    (zeros (align8 (getD ends j 0) - getD ends j 0) ++ structureWith r wanted offsets (builtSlot j))
     []

@@ -4,6 +4,7 @@ mod offsets;
 mod plan;
 mod record;
 mod refusals;
+mod refusals_extras;
 mod refusals_images;
 mod refusals_range;
 mod refusals_strings;

@@ -1,28 +1,38 @@
-// What a build refuses of the range itself (25), of the OEM fields (8) and of Control's flags (10).
-use crate::record::FLAGS_AT;
+// What a build refuses of the range itself (25) and of the OEM fields (8).
+use crate::record::BASE_SIZE;
+use crate::record::MARKS_AT;
 use crate::record::OEM_AT;
-use crate::record::RANGE_SIZE;
-use crate::record::SLOT_MARKS_AT;
+use crate::record::nic_image;
+use crate::record::nics_given;
+use crate::record::target_image;
+use crate::record::targets_given;
 use ibft_table::check_header::is_padded;
-use ibft_table::control::Control;
-use ibft_table::layout::ENTRY_COUNT;
-use ibft_table::layout::SLOT_COUNT;
+use ibft_table::layout::NAMED_COUNT;
+use ibft_table::layout::NAMED_ENTRIES;
+use ibft_table::nic::Nic;
+use ibft_table::target::Target;
 use ibft_table::verdict::Verdict;
 use ibft_table::verdict::refuse;
 use octets::read::byte_at;
 use octets::read::part;
 ghost use mathlib.Core.Path.{_≡_};
-ghost use Prim.Native.Nat.{ℕ, _+_};
-ghost use lib.Dec.{ltb};
+ghost use mathlib.Core.Bool.{_&&_};
+ghost use Prim.Native.Nat.{ℕ, _+_, _≤_};
+ghost use lib.ListN.{length};
 ghost use Rattle.octets.specs.Counting.{any};
-ghost use Rattle.octets.specs.Octets.{byte};
-ghost use Rattle.ibft_table.specs.Layout.{slotCount, entryCount};
+ghost use Rattle.octets.specs.Octets.{differs};
+ghost use Rattle.ibft_table.specs.Layout.{nic, target};
 ghost use Rattle.ibft_table.specs.Verdict.{firstOf};
-ghost use Rattle.build_rules.specs.RecordRange.{marksAt};
-ghost use Rattle.build_rules.specs.Refusals.{rangeTests};
+ghost use Rattle.build_rules.specs.RecordRange.{baseSize, rangeSize, nicsGiven, targetsGiven, nicImage, targetImage};
+ghost use Rattle.build_rules.specs.Refusals.{badMark, rangeTests};
 
-// The marks of the entries follow those of the slots.
-const MARK_COUNT: u8 = SLOT_COUNT + ENTRY_COUNT;
+// The marks of the named entries follow those of the named slots.
+const MARK_COUNT: u8 = NAMED_COUNT + NAMED_ENTRIES;
+
+// The marks behind an extra's image: one of a NIC, five of a target.
+const NIC_MARKS: u8 = 1;
+
+const TARGET_MARKS: u8 = 5;
 
 // The OEM Table ID follows the OEMID.
 const OEM_ID_SIZE: usize = 6;
@@ -31,16 +41,58 @@ const OEM_TABLE_ID_AT: usize = OEM_AT as usize + OEM_ID_SIZE;
 
 const OEM_TABLE_ID_SIZE: usize = 8;
 
-// The place of a refusal of Control's flags: Control has no slot.
-const CONTROL_PLACE: u32 = 255;
+// Does the range neither end behind the named slots nor have the size that its numbers of extras ask for?
+fn has_wrong_size(range: &[u8]) -> bool
+    ensures { λ r. ⌜ r ≡ differs (length (now (range .entry))) baseSize && differs (length (now (range .entry))) (rangeSize (now (range .entry))) ⌝ }
+{
+    if range.len() == BASE_SIZE as usize {
+        return false;
+    }
+    range.len() != target_image(range, targets_given(range)) as usize
+}
 
-// Is a presence mark neither 0 nor 1? All of them count, also an entry's whose structure is absent.
-fn has_bad_mark(range: &[u8]) -> bool
-    ensures { λ r. ⌜ r ≡ any (slotCount + entryCount) (λ (i : ℕ). ltb 1 (byte (now (range .entry)) (marksAt + i))) ⌝ }
+// Is one of the `count` presence marks from `at` on neither 0 nor 1? All of them count, also an entry's whose structure is absent.
+fn has_bad_mark(range: &[u8], at: u32, count: u8) -> bool
+    requires { ⌜ at ≤ 65535 ⌝ }
+    ensures { λ r. ⌜ r ≡ badMark (now (range .entry)) at count ⌝ }
 {
     let mut i: u8 = 0;
-    while i < MARK_COUNT {
-        if 1 < byte_at(range, SLOT_MARKS_AT as usize + i as usize) {
+    while i < count {
+        if 1 < byte_at(range, at as usize + i as usize) {
+            return true;
+        }
+        i += 1;
+    }
+    false
+}
+
+// Is one behind an extra NIC's image?
+fn has_bad_nic(range: &[u8]) -> bool
+    ensures { λ r. ⌜ r ≡ any (nicsGiven (now (range .entry))) (λ (i : ℕ). badMark (now (range .entry)) (nicImage i + nic .length) (length (nic .stringFields))) ⌝ }
+{
+    let nics = nics_given(range);
+    let mut i: u8 = 0;
+    while i < nics {
+        if has_bad_mark(range, nic_image(i) as u32 + Nic::LENGTH as u32, NIC_MARKS) {
+            return true;
+        }
+        i += 1;
+    }
+    false
+}
+
+// Is one behind an extra target's image?
+fn has_bad_target(range: &[u8]) -> bool
+    ensures { λ r. ⌜ r ≡ any (targetsGiven (now (range .entry))) (λ (i : ℕ). badMark (now (range .entry)) (targetImage (now (range .entry)) i + target .length) (length (target .stringFields))) ⌝ }
+{
+    let targets = targets_given(range);
+    let mut i: u8 = 0;
+    while i < targets {
+        if has_bad_mark(
+            range,
+            target_image(range, i) as u32 + Target::LENGTH as u32,
+            TARGET_MARKS,
+        ) {
             return true;
         }
         i += 1;
@@ -52,10 +104,16 @@ fn has_bad_mark(range: &[u8]) -> bool
 pub(crate) fn range_verdict(range: &[u8]) -> Verdict
     ensures { λ r. ⌜ r ≡ firstOf (rangeTests (now (range .entry))) ⌝ }
 {
-    if range.len() != RANGE_SIZE as usize {
+    if has_wrong_size(range) {
         return refuse(25, 0);
     }
-    if has_bad_mark(range) {
+    if has_bad_mark(range, MARKS_AT as u32, MARK_COUNT) {
+        return refuse(25, 0);
+    }
+    if has_bad_nic(range) {
+        return refuse(25, 0);
+    }
+    if has_bad_target(range) {
         return refuse(25, 0);
     }
     if !is_padded(part(range, OEM_AT as usize, OEM_ID_SIZE)) {
@@ -63,9 +121,6 @@ pub(crate) fn range_verdict(range: &[u8]) -> Verdict
     }
     if !is_padded(part(range, OEM_TABLE_ID_AT, OEM_TABLE_ID_SIZE)) {
         return refuse(8, 16);
-    }
-    if byte_at(range, FLAGS_AT as usize) & Control::RESERVED != 0 {
-        return refuse(10, CONTROL_PLACE);
     }
     Verdict::Accepted
 }

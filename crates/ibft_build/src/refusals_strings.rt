@@ -2,14 +2,16 @@
 // entry by entry.
 use crate::record::entry_given;
 use crate::record::entry_length;
+use crate::record::entry_limit;
+use crate::record::entry_number;
 use crate::record::entry_start;
 use hostname::is_host_name;
-use ibft_table::layout::ENTRY_COUNT;
 use ibft_table::layout::string_of;
 use ibft_table::verdict::Verdict;
 use ibft_table::verdict::refuse;
 use octets::read::part;
 ghost use mathlib.Core.Path.{_≡_};
+ghost use Prim.Native.Nat.{_<_};
 ghost use Rattle.octets.specs.Counting.{gather};
 ghost use Rattle.ibft_table.specs.Layout.{entryCount};
 ghost use Rattle.ibft_table.specs.Verdict.{firstOf};
@@ -30,6 +32,7 @@ fn has_zero(s: &[u8]) -> bool
 
 // Entry n, where it is present; else its two words are no part of the record. (Its end may pass 16 bits.)
 fn string_verdict(range: &[u8], strings: &[u8], n: u8) -> Verdict
+    requires { ⌜ n < entryCount ⌝ }
     ensures { λ r. ⌜ r ≡ firstOf (stringTests (now (range .entry)) (now (strings .entry)) n) ⌝ }
 {
     if !entry_given(range, n) {
@@ -38,21 +41,21 @@ fn string_verdict(range: &[u8], strings: &[u8], n: u8) -> Verdict
     let start = entry_start(range, n) as usize;
     let length = entry_length(range, n) as usize;
     if strings.len() < start + length {
-        return refuse(24, n as u32);
+        return refuse(24, entry_number(range, n) as u32);
     }
-    let string = string_of(n);
+    let string = string_of(n as u16);
     if (string.longest as usize) < length {
-        return refuse(17, n as u32);
+        return refuse(17, entry_number(range, n) as u32);
     }
     let bytes = part(strings, start, length);
     if has_zero(bytes) {
-        return refuse(20, n as u32);
+        return refuse(20, entry_number(range, n) as u32);
     }
     if !string.host {
         return Verdict::Accepted;
     }
     if !is_host_name(bytes) {
-        return refuse(18, n as u32);
+        return refuse(18, entry_number(range, n) as u32);
     }
     Verdict::Accepted
 }
@@ -60,8 +63,9 @@ fn string_verdict(range: &[u8], strings: &[u8], n: u8) -> Verdict
 pub(crate) fn strings_verdict(range: &[u8], strings: &[u8]) -> Verdict
     ensures { λ r. ⌜ r ≡ firstOf (gather (stringTests (now (range .entry)) (now (strings .entry))) 0 entryCount) ⌝ }
 {
+    let limit = entry_limit(range);
     let mut n: u8 = 0;
-    while n < ENTRY_COUNT {
+    while n < limit {
         let v = string_verdict(range, strings, n);
         if let Verdict::Refused(_) = v {
             return v;

@@ -1,5 +1,7 @@
 // The whole table into the room: header, Control, structures, heap, each into its own stretch, and the checksum last.
 use crate::plan::Plan;
+use crate::record::entry_limit;
+use crate::starts::control_end;
 use crate::write_header::put_control;
 use crate::write_header::put_header;
 use crate::write_heap::put_heap;
@@ -12,10 +14,11 @@ ghost use mathlib.Core.List.{[], _∷_, _++_};
 ghost use Prim.Native.Nat.{_≤_};
 ghost use lib.ListN.{length, take, drop};
 ghost use Rattle.octets.specs.Octets.{checksum, write};
+ghost use Rattle.ibft_table.specs.Layout.{controlEnd};
 ghost use Rattle.build_rules.specs.RecordRange.{contentGiven};
 ghost use Rattle.build_rules.specs.Plan.{lengthBuilt};
 ghost use Rattle.build_rules.specs.TableBytes.{bareTable, tableOf};
-ghost use Rattle.ibft_build.specs.Planning.{Readable, structureEnds, planOf};
+ghost use Rattle.ibft_build.specs.Planning.{Whole, Readable, extrasGiven, structureEnds, planOf};
 ghost use Rattle.ibft_build.specs.Writing.{headerWith, controlWith};
 
 // Where the checksum stands.
@@ -23,11 +26,12 @@ const CHECKSUM_AT: usize = 9;
 
 // Writes the header and Control, for a table of this Length.
 fn put_front(room: &mut [u8], range: &[u8], ends: &[u16], size: u32)
-    requires { ⌜ (66 ≤ length (now room)) × (length (now range) ≡ 419) × (now ends ≡ structureEnds (now range)) ⌝ }
+    requires { ⌜ (controlEnd (extrasGiven (now range)) ≤ length (now room)) × Whole (now range) × (now ends ≡ structureEnds (now range)) ⌝ }
     ensures { λ _. ⌜ now (room .exit) ≡ write (now (room .entry)) 0 (headerWith (now (range .entry)) size ++ controlWith (now (range .entry))) ⌝ }
 {
     put_header(&mut room[0..48], range, size);
-    put_control(&mut room[48..66], range, ends);
+    let end = control_end(range) as usize;
+    put_control(&mut room[48..end], range, ends);
 }
 
 // Writes all but the checksum.
@@ -38,11 +42,21 @@ fn put_bare(room: &mut [u8], range: &[u8], strings: &[u8], plan: Plan)
     let ends = plan.ends;
     put_front(room, range, &ends, plan.length);
     let offsets = plan.offsets;
-    put_structures(room, range, &ends, &offsets);
+    let wanted = plan.wanted;
+    put_structures(room, range, &ends, &wanted, &offsets);
     let start = ends[SLOT_COUNT as usize] as usize;
     let end = plan.length as usize;
     let sizes = plan.sizes;
-    put_heap(&mut room[start..end], range, strings, &sizes);
+    let limit = entry_limit(range);
+    let fields = plan.fields;
+    put_heap(
+        &mut room[start..end],
+        range,
+        strings,
+        &fields,
+        &sizes,
+        limit,
+    );
 }
 
 // Sets the checksum of the table that the first `size` bytes are.

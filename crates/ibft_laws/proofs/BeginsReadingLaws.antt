@@ -12,10 +12,10 @@ use Rattle.octets.specs.Octets.{part, bytesPast, bytesAt}
 use Rattle.octets.proofs.ReadLaws.{bytes-part, part-from}
 use Rattle.ibft_table.specs.Layout.{Kind, initiator, nic, target, slotCount, entryCount, kindOf, nicSlot, targetSlot}
 use Rattle.ibft_table.specs.Verdict.{refusalOf, shown}
-use Rattle.ibft_table.specs.Table.{lengthOf, startOf, present, sizeOf, offsetOf, holdsEntry}
+use Rattle.ibft_table.specs.Table.{lengthOf, startsOf, startOf, present, sizeOf, offsetOf, holdsEntry}
 use Rattle.ibft_table.specs.Check.{checkOf}
 use Rattle.ibft_table.specs.Record.{Record}
-use Rattle.ibft_table.specs.Readings.{initiatorIn, nicIn, targetIn, headerOf, slotVerdict, structureIn, structureFrom, structureOf, initiatorOf, nicOf, targetOf, entryVerdict, entryFrom, entryOf, viewOf}
+use Rattle.ibft_table.specs.Readings.{initiatorIn, nicIn, targetIn, headerOf, slotCalled, entryCalled, slotVerdict, structureIn, indexShown, structureFrom, structureGot, structureOf, initiatorOf, nicOf, targetOf, entryVerdict, entryFrom, entryGot, entryOf, viewGot, viewOf}
 use Rattle.ibft_table.specs.declared.verdict.Refusal.{Refusal}
 use Rattle.ibft_table.specs.declared.verdict.Verdict.{Verdict}
 use Rattle.ibft_table.specs.declared.verdict.Verdict.the-variants.{Accepted, Refused}
@@ -24,10 +24,10 @@ use Rattle.ibft_table.specs.declared.nic.Nic.{Nic}
 use Rattle.ibft_table.specs.declared.target.Target.{Target}
 use Rattle.ibft_laws.specs.Begins.{Begins}
 use Rattle.ibft_laws.proofs.LayoutLaws.{slot-fits}
-use Rattle.ibft_laws.proofs.TableLaws.{length-least, length-le, slot-kept, slot-end-le, owner-inside, entry-owner-on}
+use Rattle.ibft_laws.proofs.TableLaws.{present-below, holds-past, holds-below, length-least, length-le, slot-kept, slot-end-le, owner-inside, entry-owner-on}
 use Rattle.ibft_laws.proofs.BeginsLaws.{start-same, present-same, structure-byte-same, structure-part-same, size-same, offset-same}
 use Rattle.ibft_laws.proofs.BeginsVerdictLaws.{begins-accepted}
-use Rattle.ibft_laws.proofs.BeginsRecordLaws.{begins-holds, begins-entry-bytes, begins-record}
+use Rattle.ibft_laws.proofs.BeginsRecordLaws.{begins-starts, begins-index, begins-holds, begins-entry-bytes, begins-record}
 use Rattle.ibft_laws.proofs.ReadingLaws.{initiator-kind, nic-kind, target-kind, slot-verdict, slot-missing, slot-unknown, entry-verdict, entry-missing, entry-unknown, header-gives}
 
 -- ---- a reading looks at its structure only
@@ -69,107 +69,142 @@ module _ (t u : List ℕ) (ok : checkOf t ≡ Accepted) (like : Begins u t (leng
       }) (begins-record t u ok like)
       ∙ sym (header-gives t ok)
 
+  starts : startsOf u ≡ startsOf t
+  starts = begins-starts t u ok like
+
   -- ---- structures
 
-  -- two answers by slot k's verdict are the same where they are so of each refusal, and of a structure that is present
-  by-slot : {R : Type 0} (k : ℕ) (f g : Verdict → R) → ((r : Refusal) → f (Refused r) ≡ g (Refused r))
-      → (k < slotCount → present t k ≡ true → f Accepted ≡ g Accepted) → f (slotVerdict u k) ≡ g (slotVerdict t k)
-  by-slot k f g refused on-both =
-      elim (decLt k slotCount) [
+  -- two answers by slot k's verdict, asked for by a number, are the same where they are so of each refusal, and of a structure that is present
+  by-slot : {R : Type 0} (number k : ℕ) (f g : Verdict → R) → ((r : Refusal) → f (Refused r) ≡ g (Refused r))
+      → (present t k ≡ true → f Accepted ≡ g Accepted) → f (slotVerdict (startsOf u) u number k) ≡ g (slotVerdict (startsOf t) t number k)
+  by-slot number k f g refused on-both =
+      elim (decLt number slotCount) [
         | yes h ↦ go h (present t k) refl
-        | no h ↦ ap f (slot-unknown u ok′ k (omega arith)) ∙ refused _ ∙ sym (ap g (slot-unknown t ok k (omega arith)))
+        | no h ↦ ap f (slot-unknown u ok′ number k (omega arith)) ∙ refused _ ∙ sym (ap g (slot-unknown t ok number k (omega arith)))
       ]
     where
-      go : k < slotCount → (b : Bool) → present t k ≡ b → f (slotVerdict u k) ≡ g (slotVerdict t k)
+      go : number < slotCount → (b : Bool) → present t k ≡ b → f (slotVerdict (startsOf u) u number k) ≡ g (slotVerdict (startsOf t) t number k)
       go h true on =
-          ap f (slot-verdict u ok′ k h (present-same t u least like k h ∙ on)) ∙ on-both h on ∙ sym (ap g (slot-verdict t ok k h on))
+          ap f (slot-verdict u ok′ number k h (present-same t u least like starts k ∙ on)) ∙ on-both on ∙ sym (ap g (slot-verdict t ok number k h on))
       go h false off =
-          ap f (slot-missing u ok′ k h (present-same t u least like k h ∙ off)) ∙ refused _ ∙ sym (ap g (slot-missing t ok k h off))
+          ap f (slot-missing u ok′ number k h (present-same t u least like starts k ∙ off)) ∙ refused _ ∙ sym (ap g (slot-missing t ok number k h off))
 
-  pub begins-slot-verdict : (k : ℕ) → slotVerdict u k ≡ slotVerdict t k
-  begins-slot-verdict k = by-slot k (λ (v : Verdict). v) (λ (v : Verdict). v) (λ r. refl) (λ h on. refl)
+  pub begins-slot-verdict : (number k : ℕ) → slotVerdict (startsOf u) u number k ≡ slotVerdict (startsOf t) t number k
+  begins-slot-verdict number k = by-slot number k (λ (v : Verdict). v) (λ (v : Verdict). v) (λ r. refl) (λ on. refl)
 
-  pub begins-structure : (k : ℕ) → structureOf u k ≡ structureOf t k
-  unfolding structureOf structureFrom
-  begins-structure k =
-      by-slot k (structureFrom u k) (structureFrom t k) (λ r. refl)
-      (λ h on.
-      let flags = structure-byte-same t u least like k h (slot-kept t ok k h on .inside) 5 (omega (arith, slot-fits k h .flags, slot-fits k h .words)) in
-      let start = start-same t u least like k h in
-      λ i. record { refusal = refusalOf Accepted; id = (kindOf k) .id; start = start i; flags = flags i })
+  pub begins-structure : (number : ℕ) → structureOf u number ≡ structureOf t number
+  unfolding structureOf structureGot structureFrom
+  begins-structure number =
+      ap (λ (j : ℕ). structureFrom (startsOf u) u j (slotVerdict (startsOf u) u number j)) (ap (λ (s : List ℕ). slotCalled s number) starts)
+      ∙ by-slot number (slotCalled (startsOf t) number) (structureFrom (startsOf u) u (slotCalled (startsOf t) number))
+      (structureFrom (startsOf t) t (slotCalled (startsOf t) number)) (λ r. refl) (same (slotCalled (startsOf t) number))
+    where
+      same : (k : ℕ) → present t k ≡ true → structureFrom (startsOf u) u k Accepted ≡ structureFrom (startsOf t) t k Accepted
+      same k on =
+          let h = present-below t k on in
+          let flags = structure-byte-same t u least like starts k (slot-kept t ok k h on .inside) 5 (omega (arith, slot-fits k h .flags, slot-fits k h .words)) in
+          let start = start-same t u least like starts k in
+          let index = begins-index t u ok like k h in
+          λ i. record { refusal = refusalOf Accepted; id = (kindOf k) .id; index = index i; start = start i; flags = flags i }
 
   -- a reading of slot k that looks at the structure's own bytes only
   read-same : {R : Type 0} (k : ℕ) (kind : Kind) (read : List ℕ → R) → (k < slotCount → kindOf k ≡ kind)
-      → ((p : List ℕ) → kind .length ≤ length p → read (part p 0 (kind .length)) ≡ read p) → read (structureIn u k) ≡ read (structureIn t k)
-  unfolding structureIn shown
-  read-same k kind read is whole =
-      by-slot k (λ (v : Verdict). read (shown v (drop (startOf u k) u))) (λ (v : Verdict). read (shown v (drop (startOf t k) t))) (λ r. refl)
-      (λ h on. sym (whole (drop (startOf u k) u) (long-u h on)) ∙ ap read (bytes h on) ∙ whole (drop (startOf t k) t) (long-t h on))
-    where
-      size : k < slotCount → (kindOf k) .length ≡ kind .length
-      size h = ap (λ (κ : Kind). κ .length) (is h)
-
-      long-t : k < slotCount → present t k ≡ true → kind .length ≤ length (drop (startOf t k) t)
-      long-t h on = omega (arith, size h, length-drop (startOf t k) t, slot-end-le t ok k h on, length-le t ok)
-
-      long-u : k < slotCount → present t k ≡ true → kind .length ≤ length (drop (startOf u k) u)
-      long-u h on = omega (arith, size h, length-drop (startOf u k) u, start-same t u least like k h, slot-end-le t ok k h on, like .long)
-
-      bytes : k < slotCount → present t k ≡ true → part (drop (startOf u k) u) 0 (kind .length) ≡ part (drop (startOf t k) t) 0 (kind .length)
-      bytes h on =
-          part-from u (startOf u k) 0 (kind .length)
-          ∙ structure-part-same t u least like k h (slot-kept t ok k h on .inside) 0 (kind .length) (omega (arith, size h))
-          ∙ sym (part-from t (startOf t k) 0 (kind .length))
+      → ((p : List ℕ) → kind .length ≤ length p → read (part p 0 (kind .length)) ≡ read p) → present t k ≡ true
+      → read (drop (startOf u k) u) ≡ read (drop (startOf t k) t)
+  read-same k kind read is whole on =
+      let h = present-below t k on in
+      let size : (kindOf k) .length ≡ kind .length = ap (λ (κ : Kind). κ .length) (is h) in
+      let long-t : kind .length ≤ length (drop (startOf t k) t) = omega (arith, size, length-drop (startOf t k) t, slot-end-le t ok k h on, length-le t ok) in
+      let long-u : kind .length ≤ length (drop (startOf u k) u) =
+      omega (arith, size, length-drop (startOf u k) u, start-same t u least like starts k, slot-end-le t ok k h on, like .long) in
+      let bytes : part (drop (startOf u k) u) 0 (kind .length) ≡ part (drop (startOf t k) t) 0 (kind .length) =
+      part-from u (startOf u k) 0 (kind .length)
+      ∙ structure-part-same t u least like starts k (slot-kept t ok k h on .inside) 0 (kind .length) (omega (arith, size))
+      ∙ sym (part-from t (startOf t k) 0 (kind .length)) in
+      sym (whole (drop (startOf u k) u) long-u) ∙ ap read bytes ∙ whole (drop (startOf t k) t) long-t
 
   pub begins-initiator : initiatorOf u ≡ initiatorOf t
-  unfolding initiatorOf
+  unfolding initiatorOf structureIn shown
   begins-initiator =
-      ap₂ (λ (v : Verdict) (r : Initiator). record { refusal = refusalOf v; fields = r })
-      (begins-slot-verdict 0)
-      (read-same 0 initiator initiatorIn (λ h. initiator-kind) whole-initiator)
+      by-slot 0 0
+      (λ (v : Verdict). record { refusal = refusalOf v; fields = initiatorIn (shown v (drop (startOf u 0) u)) })
+      (λ (v : Verdict). record { refusal = refusalOf v; fields = initiatorIn (shown v (drop (startOf t 0) t)) })
+      (λ r. refl)
+      (λ on. ap (λ (x : Initiator). record { refusal = refusalOf Accepted; fields = x }) (read-same 0 initiator initiatorIn (λ h. initiator-kind) whole-initiator on))
 
   pub begins-nic : (n : ℕ) → nicOf u n ≡ nicOf t n
-  unfolding nicOf
+  unfolding nicOf structureIn shown indexShown
   begins-nic n =
-      ap₂ (λ (v : Verdict) (r : Nic). record { refusal = refusalOf v; fields = r })
-      (begins-slot-verdict (nicSlot n))
-      (read-same (nicSlot n) nic nicIn (nic-kind n) whole-nic)
+      by-slot (nicSlot n) (nicSlot n)
+      (λ (v : Verdict). record { refusal = refusalOf v; index = indexShown (startsOf u) u v (nicSlot n); fields = nicIn (shown v (drop (startOf u (nicSlot n)) u)) })
+      (λ (v : Verdict). record { refusal = refusalOf v; index = indexShown (startsOf t) t v (nicSlot n); fields = nicIn (shown v (drop (startOf t (nicSlot n)) t)) })
+      (λ r. refl)
+      (λ on.
+      ap₂ (λ (i : ℕ) (x : Nic). record { refusal = refusalOf Accepted; index = i; fields = x }) (begins-index t u ok like (nicSlot n) (present-below t (nicSlot n) on))
+      (read-same (nicSlot n) nic nicIn (nic-kind n) whole-nic on))
 
   pub begins-target : (n : ℕ) → targetOf u n ≡ targetOf t n
-  unfolding targetOf
+  unfolding targetOf structureIn shown indexShown
   begins-target n =
-      ap₂ (λ (v : Verdict) (r : Target). record { refusal = refusalOf v; fields = r })
-      (begins-slot-verdict (targetSlot n))
-      (read-same (targetSlot n) target targetIn (target-kind n) whole-target)
+      by-slot (targetSlot n) (targetSlot n)
+      (λ (v : Verdict). record {
+        refusal = refusalOf v;
+        index = indexShown (startsOf u) u v (targetSlot n);
+        fields = targetIn (shown v (drop (startOf u (targetSlot n)) u));
+      })
+      (λ (v : Verdict). record {
+        refusal = refusalOf v;
+        index = indexShown (startsOf t) t v (targetSlot n);
+        fields = targetIn (shown v (drop (startOf t (targetSlot n)) t));
+      })
+      (λ r. refl)
+      (λ on.
+      ap₂ (λ (i : ℕ) (x : Target). record { refusal = refusalOf Accepted; index = i; fields = x })
+      (begins-index t u ok like (targetSlot n) (present-below t (targetSlot n) on))
+      (read-same (targetSlot n) target targetIn (target-kind n) whole-target on))
 
   -- ---- entries
 
-  by-entry : {R : Type 0} (n : ℕ) (f g : Verdict → R) → ((r : Refusal) → f (Refused r) ≡ g (Refused r))
-      → (n < entryCount → holdsEntry t n ≡ true → f Accepted ≡ g Accepted) → f (entryVerdict u n) ≡ g (entryVerdict t n)
-  by-entry n f g refused on-both =
+  holds-u : (n : ℕ) → holdsEntry u n ≡ holdsEntry t n
+  holds-u n =
       elim (decLt n entryCount) [
+        | yes h ↦ begins-holds t u ok like n h
+        | no h ↦ holds-past u n (omega arith) ∙ sym (holds-past t n (omega arith))
+      ]
+
+  by-entry : {R : Type 0} (number n : ℕ) (f g : Verdict → R) → ((r : Refusal) → f (Refused r) ≡ g (Refused r))
+      → (holdsEntry t n ≡ true → f Accepted ≡ g Accepted) → f (entryVerdict (startsOf u) u number n) ≡ g (entryVerdict (startsOf t) t number n)
+  by-entry number n f g refused on-both =
+      elim (decLt number entryCount) [
         | yes h ↦ go h (holdsEntry t n) refl
-        | no h ↦ ap f (entry-unknown u ok′ n (omega arith)) ∙ refused _ ∙ sym (ap g (entry-unknown t ok n (omega arith)))
+        | no h ↦ ap f (entry-unknown u ok′ number n (omega arith)) ∙ refused _ ∙ sym (ap g (entry-unknown t ok number n (omega arith)))
       ]
     where
-      go : n < entryCount → (b : Bool) → holdsEntry t n ≡ b → f (entryVerdict u n) ≡ g (entryVerdict t n)
-      go h true on =
-          ap f (entry-verdict u ok′ n h (begins-holds t u ok like n h ∙ on)) ∙ on-both h on ∙ sym (ap g (entry-verdict t ok n h on))
-      go h false off =
-          ap f (entry-missing u ok′ n h (begins-holds t u ok like n h ∙ off)) ∙ refused _ ∙ sym (ap g (entry-missing t ok n h off))
+      go : number < entryCount → (b : Bool) → holdsEntry t n ≡ b → f (entryVerdict (startsOf u) u number n) ≡ g (entryVerdict (startsOf t) t number n)
+      go h true on = ap f (entry-verdict u ok′ number n h (holds-u n ∙ on)) ∙ on-both on ∙ sym (ap g (entry-verdict t ok number n h on))
+      go h false off = ap f (entry-missing u ok′ number n h (holds-u n ∙ off)) ∙ refused _ ∙ sym (ap g (entry-missing t ok number n h off))
 
-  pub begins-entry : (n : ℕ) → entryOf u n ≡ entryOf t n
-  unfolding entryOf entryFrom
-  begins-entry n =
-      by-entry n (entryFrom u n) (entryFrom t n) (λ r. refl)
-      (λ h on.
-      let own = owner-inside t ok n h (entry-owner-on t n on) in
-      let offset = offset-same t u least like n h own in
-      let size = size-same t u least like n h own in
-      λ i. record { refusal = refusalOf Accepted; offset = offset i; length = size i })
+  pub begins-entry : (number : ℕ) → entryOf u number ≡ entryOf t number
+  unfolding entryOf entryGot entryFrom
+  begins-entry number =
+      ap (λ (j : ℕ). entryFrom (startsOf u) u j (entryVerdict (startsOf u) u number j)) (ap (λ (s : List ℕ). entryCalled s number) starts)
+      ∙ by-entry number (entryCalled (startsOf t) number) (entryFrom (startsOf u) u (entryCalled (startsOf t) number))
+      (entryFrom (startsOf t) t (entryCalled (startsOf t) number)) (λ r. refl) (same (entryCalled (startsOf t) number))
+    where
+      same : (n : ℕ) → holdsEntry t n ≡ true → entryFrom (startsOf u) u n Accepted ≡ entryFrom (startsOf t) t n Accepted
+      same n on =
+          let h = holds-below t n on in
+          let own = owner-inside t ok n h (entry-owner-on t n on) in
+          let offset = offset-same t u least like starts n h own in
+          let size = size-same t u least like starts n h own in
+          λ i. record { refusal = refusalOf Accepted; offset = offset i; length = size i }
 
-  pub begins-view : (n : ℕ) → viewOf u n ≡ viewOf t n
-  unfolding viewOf shown
-  begins-view n =
-      by-entry n (λ (v : Verdict). shown v (part u (offsetOf u n) (sizeOf u n))) (λ (v : Verdict). shown v (part t (offsetOf t n) (sizeOf t n))) (λ r. refl)
-      (begins-entry-bytes t u ok like n)
+  pub begins-view : (number : ℕ) → viewOf u number ≡ viewOf t number
+  unfolding viewOf viewGot shown
+  begins-view number =
+      ap (λ (j : ℕ). shown (entryVerdict (startsOf u) u number j) (part u (offsetOf u j) (sizeOf u j))) (ap (λ (s : List ℕ). entryCalled s number) starts)
+      ∙ by-entry number (entryCalled (startsOf t) number)
+      (λ (v : Verdict). shown v (part u (offsetOf u (entryCalled (startsOf t) number)) (sizeOf u (entryCalled (startsOf t) number))))
+      (λ (v : Verdict). shown v (part t (offsetOf t (entryCalled (startsOf t) number)) (sizeOf t (entryCalled (startsOf t) number))))
+      (λ r. refl)
+      (λ on. begins-entry-bytes t u ok like (entryCalled (startsOf t) number) (holds-below t (entryCalled (startsOf t) number) on) on)

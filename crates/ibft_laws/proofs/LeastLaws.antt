@@ -18,22 +18,24 @@ use native.Mathlib.Omega.{arith}
 use borrow.Author.Tests.{ltb-true, lt-ltb}
 use lib.Dec.{ltb}
 use Rattle.octets.proofs.CountingLaws.{clash}
+use Rattle.octets.specs.Counting.{count}
 use Rattle.string_heap.specs.Stored.{Entry, every, heapSize}
 use Rattle.string_heap.specs.Starts.{align8, endTo}
 use Rattle.string_heap.proofs.TailsLaws.{Stands, Clean}
 use Rattle.string_heap.proofs.StoredLaws.{least-heap}
 use Rattle.string_heap.proofs.StartsLaws.{starts-least}
-use Rattle.ibft_table.specs.Layout.{slotCount, entryCount, kindOf, builtSlot, controlEnd}
-use Rattle.ibft_table.specs.Table.{lengthOf, startOf, present, endOf, heapOf, offsetOf}
+use Rattle.ibft_table.specs.Layout.{slotCount, entryCount, namedCount, mostWords, kindOf, builtSlot, controlEnd}
+use Rattle.ibft_table.specs.Table.{lengthOf, controlEndOf, extraWords, startsOf, startOf, present, endIn, heapOf, offsetOf}
 use Rattle.ibft_table.specs.Check.{checkOf}
-use Rattle.ibft_table.specs.Record.{Content, listed, shownIf, contentOf, recordOf}
+use Rattle.ibft_table.specs.Record.{Content, listed, shownIf, contentIn, contentOf, recordOf}
 use Rattle.ibft_table.specs.declared.verdict.Verdict.the-variants.{Accepted}
 use Rattle.ibft_table.specs.Order.{keepsOrder}
 use Rattle.octets.proofs.TestLaws.{and-both}
 use Rattle.ibft_laws.proofs.LayoutLaws.{built-fits}
 use Rattle.ibft_table.proofs.CheckLaws.{heap-after-control}
-use Rattle.ibft_laws.proofs.HeapLaws.{heap-end}
-use Rattle.ibft_laws.proofs.TableLaws.{slot-kept, slots-disjoint, heap-start-le, entry-stands}
+use Rattle.ibft_laws.proofs.TableLaws.{facts, slot-kept, slots-disjoint, heap-end, heap-start-le, entry-stands}
+use Rattle.ibft_laws.proofs.SeatLaws.{extras-fit}
+use Rattle.octets.proofs.CountLaws.{count-same}
 use Rattle.ibft_laws.proofs.RecordLaws.{table-entry-some, listed-same}
 use Rattle.ibft_laws.proofs.OrderLaws.{order-starts}
 
@@ -43,11 +45,41 @@ endTo-same on on′ size base zero h = refl
 endTo-same on on′ size base (suc k) h =
     ap₂ (λ (b : Bool) (e : ℕ). cond b (align8 e + size k) e) (h k (omega arith)) (endTo-same on on′ size base k (λ i l. h i (omega arith)))
 
+-- a later base ends no earlier
+pub endTo-base : (on : ℕ → Bool) (size : ℕ → ℕ) (base base′ k : ℕ) → base ≤ base′ → endTo on size base k ≤ endTo on size base′ k
+unfolding endTo
+endTo-base on size base base′ zero h = h
+endTo-base on size base base′ (suc k) h = go (on k) (endTo-base on size base base′ k h)
+  where
+    go : (b : Bool) → endTo on size base k ≤ endTo on size base′ k
+        → cond b (align8 (endTo on size base k) + size k) (endTo on size base k) ≤ cond b (align8 (endTo on size base′ k) + size k) (endTo on size base′ k)
+    go true h = omega arith
+    go false h = omega arith
+
+-- how many extra slots are in use
+abbrev pub extrasOf : (ℕ → Bool) → ℕ
+extrasOf on = count mostWords (λ (i : ℕ). on (namedCount + i))
+
 -- how long the structure is that is i-th in the build's order
 abbrev pub sizeBuilt : ℕ → ℕ
 sizeBuilt i = (kindOf (builtSlot i)) .length
 
 module _ (t : List ℕ) (ok : checkOf t ≡ Accepted) where
+  -- ---- Control has a word for each extra
+
+  control-fits : (on : ℕ → Bool) → ((k : ℕ) → k < slotCount → present t k ≡ on k) → controlEnd (extrasOf on) ≤ controlEndOf t
+  unfolding extraWords startsOf
+  control-fits on is =
+      let c = facts t ok .control in
+      let long = c .long in
+      let short = c .short in
+      let even = c .even in
+      omega (
+        arith,
+        extras-fit t (extraWords t),
+        count-same mostWords (λ (i : ℕ). present t (namedCount + i)) (λ (i : ℕ). on (namedCount + i)) (λ i l. is (namedCount + i) (omega arith)),
+      )
+
   -- ---- the heap's start
 
   module _ (keeps : keepsOrder t ≡ true) where
@@ -68,7 +100,7 @@ module _ (t : List ℕ) (ok : checkOf t ≡ Accepted) where
         record { turn = h; slot = built-fits i h .slot; on = w .1 }
 
     ordered : (i j : ℕ) → i < j → there i ≡ true → there j ≡ true → startOf t (builtSlot i) + sizeBuilt i ≤ startOf t (builtSlot j)
-    unfolding endOf
+    unfolding endIn
     ordered i j l p q =
         let a = known i p in
         let b = known j q in
@@ -76,17 +108,17 @@ module _ (t : List ℕ) (ok : checkOf t ≡ Accepted) where
         ⊎-elim (λ x. x) (λ x. absurd (omega (arith, x, lower)))
         (slots-disjoint t ok (builtSlot i) (builtSlot j) (a .slot) (b .slot) (built-fits j (b .turn) .once i l) (a .on) (b .on))
 
-    pub starts-bound : endTo (λ (i : ℕ). present t (builtSlot i)) sizeBuilt controlEnd slotCount ≤ heapOf t
-    unfolding there endOf
+    pub starts-bound : endTo (λ (i : ℕ). present t (builtSlot i)) sizeBuilt (controlEndOf t) slotCount ≤ heapOf t
+    unfolding there endIn
     starts-bound =
-        let same = endTo-same there (λ (i : ℕ). present t (builtSlot i)) sizeBuilt controlEnd slotCount (λ i l. ap (λ (b : Bool). b && present t (builtSlot i)) (lt-ltb i slotCount l)) in
+        let same = endTo-same there (λ (i : ℕ). present t (builtSlot i)) sizeBuilt (controlEndOf t) slotCount (λ i l. ap (λ (b : Bool). b && present t (builtSlot i)) (lt-ltb i slotCount l)) in
         let least =
-        starts-least there sizeBuilt controlEnd (λ (i : ℕ). startOf t (builtSlot i))
+        starts-least there sizeBuilt (controlEndOf t) (λ (i : ℕ). startOf t (builtSlot i))
         (λ i p. let a = known i p in slot-kept t ok (builtSlot i) (a .slot) (a .on) .aligned)
         (λ i p. let a = known i p in omega (arith, slot-kept t ok (builtSlot i) (a .slot) (a .on) .least))
         ordered
         slotCount (heapOf t) (heap-after-control t)
-        (λ i l p. let a = known i p in heap-end t (builtSlot i) (a .slot) (a .on)) in
+        (λ i l p. let a = known i p in heap-end t ok (builtSlot i) (a .slot) (a .on)) in
         omega (arith, same, least)
 
   -- ---- the heap's size, and Length
@@ -104,11 +136,12 @@ module _ (t : List ℕ) (ok : checkOf t ≡ Accepted) where
 
       -- `on k` says whether slot k's structure is present: it is what the record says of it
       pub least-length : keepsOrder t ≡ true → (on : ℕ → Bool) → ((k : ℕ) → k < slotCount → present t k ≡ on k)
-          → endTo (λ (i : ℕ). on (builtSlot i)) sizeBuilt controlEnd slotCount + heapSize entryCount every e ≤ lengthOf t
+          → endTo (λ (i : ℕ). on (builtSlot i)) sizeBuilt (controlEnd (extrasOf on)) slotCount + heapSize entryCount every e ≤ lengthOf t
       least-length keeps on is =
           omega (
             arith,
-            endTo-same (λ (i : ℕ). present t (builtSlot i)) (λ (i : ℕ). on (builtSlot i)) sizeBuilt controlEnd slotCount (λ i l. is (builtSlot i) (built-fits i l .slot)),
+            endTo-same (λ (i : ℕ). present t (builtSlot i)) (λ (i : ℕ). on (builtSlot i)) sizeBuilt (controlEnd (extrasOf on)) slotCount (λ i l. is (builtSlot i) (built-fits i l .slot)),
+            endTo-base (λ (i : ℕ). present t (builtSlot i)) sizeBuilt (controlEnd (extrasOf on)) (controlEndOf t) slotCount (control-fits on is),
             starts-bound keeps,
             heap-bound,
             heap-start-le t ok,
@@ -121,8 +154,8 @@ module _
     (clean : (n : ℕ) (a : List ℕ) → n < entryCount → (c .entry) n ≡ some a → Clean a)
   where
     pub least-record : (t : List ℕ) → checkOf t ≡ Accepted → recordOf t ≡ listed c → keepsOrder t ≡ true
-        → endTo (λ (i : ℕ). on ((c .structure) (builtSlot i))) sizeBuilt controlEnd slotCount + heapSize entryCount every (c .entry) ≤ lengthOf t
-    unfolding recordOf contentOf
+        → endTo (λ (i : ℕ). on ((c .structure) (builtSlot i))) sizeBuilt (controlEnd (extrasOf (λ (k : ℕ). on ((c .structure) k)))) slotCount + heapSize entryCount every (c .entry) ≤ lengthOf t
+    unfolding recordOf contentOf contentIn
     least-record t ok reads keeps =
         let same = listed-same (contentOf t) c reads in
         least-length t ok (c .entry) (same .entries) clean keeps (λ (k : ℕ). on ((c .structure) k)) (λ k h. there (present t k) _ ∙ ap on (same .structures k h))

@@ -4,13 +4,14 @@ use mathlib.Core.Path.{_≡_}
 use mathlib.Core.Logic.{_⊎_}
 use mathlib.Core.Bool.{true}
 use mathlib.Core.List.{List}
-use Prim.Native.Nat.{ℕ, _+_, _%_, _≤_, _<_}
+use Prim.Native.Nat.{ℕ, _+_, _*_, _%_, _≤_, _<_}
 use lib.ListN.{length, take}
 use lib.Bits.{bitAnd}
+use Rattle.octets.specs.Counting.{count}
 use Rattle.octets.specs.Octets.{byte, word16, word32, part, sum}
 use Rattle.hostname.specs.Hostname.{isHostName}
-use Rattle.ibft_table.specs.Layout.{Kind, control, slotCount, kindOf, indexOf, controlAt, extensionsAt, leastStart, chapAt, entryCount, stringOf}
-use Rattle.ibft_table.specs.Table.{lengthOf, startOf, present, endOf, heapOf, sizeOf, offsetOf, holdsEntry}
+use Rattle.ibft_table.specs.Layout.{Kind, control, slotCount, namedCount, extraMost, leastIndex, mostWords, kindOf, controlAt, extensionsAt, chapAt, entryCount, stringOf}
+use Rattle.ibft_table.specs.Table.{lengthOf, controlLength, controlEndOf, wordCount, startAt, usedAt, kindAt, indexAt, endAt, heapOf, alike, startsOf, indexIn, startOf, present, endOf, sizeOf, offsetOf, holdsEntry}
 use Rattle.ibft_table.specs.Check.{padded}
 
 -- the header of a table with this signature, at least so many bytes lent and of at least this Length
@@ -33,16 +34,29 @@ pub record StartFacts (t : List ℕ) (start : ℕ) (kind : Kind) (index : ℕ) :
   pub reserved : bitAnd (byte t (start + 5)) (kind .reserved) ≡ 0
 
 pub record ControlFacts (t : List ℕ) : Type 0 where
-  pub starts : StartFacts t controlAt control 0
+  pub id : byte t controlAt ≡ control .id
+  pub version : byte t (controlAt + 1) ≡ control .version
+  pub index-is : byte t (controlAt + 4) ≡ 0
+  pub long : control .length ≤ controlLength t
+  pub short : controlLength t ≤ control .length + 2 * mostWords
+  pub even : controlLength t % 2 ≡ 0
+  pub inside : controlEndOf t ≤ lengthOf t
+  pub reserved : bitAnd (byte t (controlAt + 5)) (control .reserved) ≡ 0
   pub extensions : word16 t extensionsAt ≡ 0
 
--- slot k, where its structure is present
-pub record SlotFacts (t : List ℕ) (k : ℕ) : Type 0 where
-  pub aligned : startOf t k % 8 ≡ 0
-  pub least : leastStart ≤ startOf t k
-  pub inside : endOf t k ≤ lengthOf t
-  pub starts : StartFacts t (startOf t k) (kindOf k) (indexOf k)
-  pub chap : (kindOf k) .chap ≡ true → byte t (startOf t k + chapAt) ≤ 2
+-- word w, where it is used
+pub record WordFacts (t : List ℕ) (w : ℕ) : Type 0 where
+  pub aligned : startAt t w % 8 ≡ 0
+  pub least : controlEndOf t ≤ startAt t w
+  pub inside : endAt t w ≤ lengthOf t
+  pub starts : StartFacts t (startAt t w) (kindAt t w) (indexAt t w)
+  pub chap : (kindAt t w) .chap ≡ true → byte t (startAt t w + chapAt) ≤ 2
+
+-- and an extra word besides: no earlier one of its kind has its Index, and fewer than six are of its kind
+pub record ExtraFacts (t : List ℕ) (w : ℕ) : Type 0 where
+  pub index-least : leastIndex ≤ indexAt t w
+  pub own-index : (v : ℕ) → v < w → alike t w v ≡ true → indexAt t v ≡ indexAt t w → ⊥
+  pub few : count w (alike t w) < extraMost
 
 -- entry n, where it is present: it and the zero behind it lie in the heap
 pub record EntryFacts (t : List ℕ) (n : ℕ) : Type 0 where
@@ -52,13 +66,27 @@ pub record EntryFacts (t : List ℕ) (n : ℕ) : Type 0 where
   pub longest : sizeOf t n ≤ (stringOf n) .longest
   pub host : (stringOf n) .host ≡ true → isHostName (part t (offsetOf t n) (sizeOf t n)) ≡ true
 
--- the structures of slots i and k share no byte
-abbrev pub Disjoint : List ℕ → ℕ → ℕ → Type 0
-Disjoint t i k = (endOf t i ≤ startOf t k) ⊎ (endOf t k ≤ startOf t i)
+-- the structures of words v and w share no byte
+abbrev pub Apart : List ℕ → ℕ → ℕ → Type 0
+Apart t v w = (endAt t v ≤ startAt t w) ⊎ (endAt t w ≤ startAt t v)
 
 pub record Facts (t : List ℕ) : Type 0 where
   pub header : HeaderFacts 0x54464269 48 66 t
   pub control : ControlFacts t
-  pub slot : (k : ℕ) → k < slotCount → present t k ≡ true → SlotFacts t k
-  pub disjoint : (i k : ℕ) → i < k → k < slotCount → present t i ≡ true → present t k ≡ true → Disjoint t i k
+  pub word : (w : ℕ) → w < wordCount t → usedAt t w ≡ true → WordFacts t w
+  pub extra : (w : ℕ) → namedCount ≤ w → w < wordCount t → usedAt t w ≡ true → ExtraFacts t w
+  pub apart : (v w : ℕ) → v < w → w < wordCount t → usedAt t v ≡ true → usedAt t w ≡ true → Apart t v w
   pub entry : (n : ℕ) → n < entryCount → holdsEntry t n ≡ true → EntryFacts t n
+
+-- ---- what follows by slot, since each slot in use has its word: slot k, where its structure is present
+
+pub record SlotFacts (t : List ℕ) (k : ℕ) : Type 0 where
+  pub aligned : startOf t k % 8 ≡ 0
+  pub least : controlEndOf t ≤ startOf t k
+  pub inside : endOf t k ≤ lengthOf t
+  pub starts : StartFacts t (startOf t k) (kindOf k) (indexIn (startsOf t) t k)
+  pub chap : (kindOf k) .chap ≡ true → byte t (startOf t k + chapAt) ≤ 2
+
+-- the structures of slots i and k share no byte
+abbrev pub Disjoint : List ℕ → ℕ → ℕ → Type 0
+Disjoint t i k = (endOf t i ≤ startOf t k) ⊎ (endOf t k ≤ startOf t i)

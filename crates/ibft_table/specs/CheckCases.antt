@@ -35,7 +35,7 @@ changed : ℕ → ℕ → List ℕ → List ℕ
 changed at byte t = sealed (write t at (byte ∷ []))
 
 bare : List ℕ
-bare = sealed (blank controlEnd)
+bare = sealed (blank (controlEnd 0))
 
 -- bench case 5: Target 0 alone, flags 1, CHAP name `depot7`, reverse name `7`
 case5 : List ℕ
@@ -88,11 +88,16 @@ cases =
     ∷ refuses 6 9 (write case5 20 (1 ∷ []))
     ∷ refuses 7 8 (changed 8 2 case5)
     ∷ refuses 8 10 (changed 12 0x41 case5)
-    -- Control's ID, version, length (24, an expanded one) and Index
+    -- Control's ID, version, Length (odd, above 42, past the table) and Index
     ∷ refuses 9 48 (changed 48 2 case5)
     ∷ refuses 9 48 (changed 49 0 case5)
-    ∷ refuses 9 48 (changed 50 24 case5)
+    ∷ refuses 9 48 (changed 50 19 case5)
+    ∷ refuses 9 48 (changed 50 44 case5)
+    ∷ refuses 9 48 (changed 50 20 bare)
     ∷ refuses 9 48 (changed 52 1 case5)
+    -- three extra words, not used; with a fourth Control ends behind 72, where Target 0 starts
+    ∷ accepts (changed 50 24 case5)
+    ∷ refuses 12 60 (changed 50 26 case5)
     ∷ refuses 10 77 (changed 77 0x11 case5)
     ∷ refuses 11 54 (changed 54 1 case5)
     ∷ refuses 12 60 (changed 61 0xFF case5)

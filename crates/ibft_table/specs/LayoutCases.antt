@@ -6,7 +6,7 @@ use Prim.Native.Nat.{ℕ, zero, suc, _+_, _/_, _%_}
 use lib.ListN.{length}
 use Rattle.octets.specs.Counting.{tabulate}
 use Rattle.octets.specs.Octets.{le16, le32}
-use Rattle.ibft_table.specs.Layout.{Field, StringField, Kind, control, initiator, nic, target, slots, slotCount, entryCount, controlAt, controlEnd, wordAt, ownerOf, stringOf, firstEntry, entriesFrom}
+use Rattle.ibft_table.specs.Layout.{Field, StringField, Kind, control, initiator, nic, target, kinds, slotCount, entryCount, namedCount, namedEntries, extraNics, extraTargets, extraMost, nicSlot, targetSlot, builtSlot, controlAt, controlEnd, mostWords, wordAt, kindOf, slotAt, slotNumber, entryAt, entryNumber, ownerOf, stringOf, firstEntry, entriesFrom}
 use Rattle.ibft_table.specs.Readings.{initiatorIn, nicIn, targetIn, pciOf}
 use Rattle.ibft_table.specs.Computing.{computing}
 use Rattle.ibft_table.specs.declared.text.Text.{Text}
@@ -58,38 +58,62 @@ unfolding worded from
 strings-target = refl
 
 -- the entries by number: slot, place of the length, longest
-entry-slots : tabulate ownerOf 0 entryCount ≡ 0 ∷ 1 ∷ 2 ∷ 2 ∷ 2 ∷ 2 ∷ 2 ∷ 3 ∷ 4 ∷ 4 ∷ 4 ∷ 4 ∷ 4 ∷ []
+entry-slots : tabulate ownerOf 0 namedEntries ≡ 0 ∷ 1 ∷ 2 ∷ 2 ∷ 2 ∷ 2 ∷ 2 ∷ 3 ∷ 4 ∷ 4 ∷ 4 ∷ 4 ∷ 4 ∷ []
 unfolding computing
 entry-slots = refl
 
-entry-words : tabulate (λ (n : ℕ). (stringOf n) .at) 0 entryCount ≡ 70 ∷ 98 ∷ 34 ∷ 38 ∷ 42 ∷ 46 ∷ 50 ∷ 98 ∷ 34 ∷ 38 ∷ 42 ∷ 46 ∷ 50 ∷ []
+entry-words : tabulate (λ (n : ℕ). (stringOf n) .at) 0 namedEntries ≡ 70 ∷ 98 ∷ 34 ∷ 38 ∷ 42 ∷ 46 ∷ 50 ∷ 98 ∷ 34 ∷ 38 ∷ 42 ∷ 46 ∷ 50 ∷ []
 unfolding computing
 entry-words = refl
 
-entry-longest : tabulate (λ (n : ℕ). (stringOf n) .longest) 0 entryCount ≡ 223 ∷ 255 ∷ 223 ∷ 255 ∷ 255 ∷ 255 ∷ 255 ∷ 255 ∷ 223 ∷ 255 ∷ 255 ∷ 255 ∷ 255 ∷ []
+entry-longest : tabulate (λ (n : ℕ). (stringOf n) .longest) 0 namedEntries ≡ 223 ∷ 255 ∷ 223 ∷ 255 ∷ 255 ∷ 255 ∷ 255 ∷ 255 ∷ 223 ∷ 255 ∷ 255 ∷ 255 ∷ 255 ∷ []
 unfolding computing
 entry-longest = refl
 
-entry-hosts : tabulate (λ (n : ℕ). (stringOf n) .host) 0 entryCount
+entry-hosts : tabulate (λ (n : ℕ). (stringOf n) .host) 0 namedEntries
     ≡ false ∷ true ∷ false ∷ false ∷ false ∷ false ∷ false ∷ true ∷ false ∷ false ∷ false ∷ false ∷ false ∷ []
 unfolding computing
 entry-hosts = refl
 
-first-entries : tabulate firstEntry 0 slotCount ≡ 0 ∷ 1 ∷ 2 ∷ 7 ∷ 8 ∷ []
+first-entries : tabulate firstEntry 0 slotCount
+    ≡ 0 ∷ 1 ∷ 2 ∷ 7 ∷ 8 ∷ 13 ∷ 14 ∷ 15 ∷ 16 ∷ 17 ∷ 18 ∷ 19 ∷ 24 ∷ 29 ∷ 34 ∷ 39 ∷ 44 ∷ []
 unfolding computing
 first-entries = refl
 
--- the counts, Control's words and its end
-counts : (length slots ≡ slotCount) × (length (entriesFrom 0 slots) ≡ entryCount)
+-- the entries of the extras: hosts of six NICs, then five strings of each of six targets; past the last an entry of no slot
+extra-slots : tabulate ownerOf namedEntries 37
+    ≡ 5 ∷ 6 ∷ 7 ∷ 8 ∷ 9 ∷ 10 ∷ 11 ∷ 11 ∷ 11 ∷ 11 ∷ 11 ∷ 12 ∷ 12 ∷ 12 ∷ 12 ∷ 12 ∷ 13 ∷ 13 ∷ 13 ∷ 13 ∷ 13 ∷ 14 ∷ 14 ∷ 14 ∷ 14 ∷ 14 ∷ 15 ∷ 15 ∷ 15 ∷ 15 ∷ 15
+    ∷ 16 ∷ 16 ∷ 16 ∷ 16 ∷ 16 ∷ 17 ∷ []
 unfolding computing
-counts = (refl, refl)
+extra-slots = refl
 
-words : tabulate wordAt 0 slotCount ≡ 56 ∷ 58 ∷ 60 ∷ 62 ∷ 64 ∷ []
+extra-words : tabulate (λ (n : ℕ). (stringOf n) .at) (namedEntries + 5) 6 ≡ 98 ∷ 34 ∷ 38 ∷ 42 ∷ 46 ∷ 50 ∷ []
+unfolding computing
+extra-words = refl
+
+-- NICs and targets by Index, and the build's order, by ID
+in-order : tabulate (λ (n : ℕ). (kindOf (nicSlot n)) .id) 0 8 ++ (tabulate (λ (n : ℕ). (kindOf (targetSlot n)) .id) 0 8 ++ tabulate (λ (j : ℕ). (kindOf (builtSlot j)) .id) 0 slotCount)
+    ≡ 3 ∷ 3 ∷ 3 ∷ 3 ∷ 3 ∷ 3 ∷ 3 ∷ 3 ∷ 4 ∷ 4 ∷ 4 ∷ 4 ∷ 4 ∷ 4 ∷ 4 ∷ 4 ∷ 2 ∷ 3 ∷ 3 ∷ 3 ∷ 3 ∷ 3 ∷ 3 ∷ 3 ∷ 3 ∷ 4 ∷ 4 ∷ 4 ∷ 4 ∷ 4 ∷ 4 ∷ 4 ∷ 4 ∷ []
+unfolding computing
+in-order = refl
+
+-- with two extra NICs callers' slot 6 is the second of them and slot 7 the first extra target; its first entry is 15
+numbered : slotAt 2 4 ∷ slotAt 2 6 ∷ slotAt 2 7 ∷ slotAt 2 12 ∷ slotAt 2 16 ∷ slotNumber 2 6 ∷ slotNumber 2 11 ∷ slotNumber 2 16 ∷ entryAt 2 14 ∷ entryAt 2 15 ∷ entryNumber 2 19 ∷ entryNumber 2 48 ∷ []
+    ≡ 4 ∷ 6 ∷ 11 ∷ 16 ∷ 20 ∷ 6 ∷ 7 ∷ 12 ∷ 14 ∷ 19 ∷ 15 ∷ 44 ∷ []
+unfolding computing
+numbered = refl
+
+-- the counts, Control's words and its end
+counts : (length kinds ≡ slotCount) × (length (entriesFrom 0 kinds) ≡ entryCount) × (firstEntry namedCount ≡ namedEntries) × (extraTargets + extraMost ≡ slotCount) × (extraNics + mostWords ≡ slotCount)
+unfolding computing
+counts = (refl, refl, refl, refl, refl)
+
+words : tabulate wordAt 0 slotCount ≡ 56 ∷ 58 ∷ 60 ∷ 62 ∷ 64 ∷ 66 ∷ 68 ∷ 70 ∷ 72 ∷ 74 ∷ 76 ∷ 78 ∷ 80 ∷ 82 ∷ 84 ∷ 86 ∷ 88 ∷ []
 unfolding computing
 words = refl
 
-control-end : controlAt + control .length ≡ controlEnd
-control-end = refl
+control-end : (controlAt + control .length ≡ controlEnd 0) × (wordAt namedCount ≡ controlEnd 0) × (wordAt (namedCount + mostWords) ≡ controlEnd mostWords)
+control-end = (refl, refl, refl)
 
 -- the readers give each byte of a structure from 5 on exactly once: laid out again, the reading of the bytes 0, 1, 2, .. is those bytes
 laid : Text → List ℕ

@@ -2,6 +2,7 @@
 use mathlib.Core.Path.{_≡_, refl}
 use mathlib.Core.List.{List, [], _∷_, _++_, map}
 use Prim.Native.Nat.{ℕ}
+use lib.ListN.{take}
 use Rattle.octets.specs.Octets.{byte, le16, le32, zeros, checksum, write}
 use Rattle.ibft_table.specs.Readings.{targetIn, addressKindOf, addressNumber, structureOf, initiatorOf, nicOf, targetOf, entryOf, viewOf}
 use Rattle.ibft_table.specs.Login.{loginOrderOf}
@@ -55,7 +56,7 @@ twoTargets mode first second = write (unsummed mode first second) 9 (checksum (u
 login : ℕ → ℕ → ℕ → List ℕ
 login mode first second =
     let order = loginOrderOf (twoTargets mode first second) in
-    order .refusal .number ∷ order .used ∷ order .places
+    order .refusal .number ∷ order .used ∷ take 2 (order .places)
 
 -- multi mode: both, ascending, whoever is selected; the second alone. Single mode: nobody selected; the second; both;
 -- selected without valid counts for nothing, for the one and for both. A reserved flag: refused.
@@ -75,25 +76,31 @@ login-orders = refl
 -- ---- readings of such a table
 
 -- present: its ID, start and flags
-second-target : structureOf (twoTargets 0 1 3) 4 ≡ record { refusal = record { number = 0; place = 0 }; id = 4; start = 128; flags = 3 }
+second-target : structureOf (twoTargets 0 1 3) 4 ≡ record { refusal = record { number = 0; place = 0 }; id = 4; index = 1; start = 128; flags = 3 }
 unfolding computing twoTargets unsummed targetBytes
 second-target = refl
 
--- missing is 22: initiator, NIC 1, Target 0's name; not there at all is 23: slot 5, NIC 2, Target 255, entry 13
+-- missing is 22: initiator, NIC 1, Target 0's name, slots 5 and 16, NIC 2, entries 13 and 48; not there at all is 23: slot 17, NIC 8,
+-- Target 255, entry 49
 refusal-numbers : (initiatorOf (twoTargets 0 1 3)) .refusal .number
     ∷ (nicOf (twoTargets 0 1 3) 1) .refusal .number
     ∷ (entryOf (twoTargets 0 1 3) 2) .refusal .number
     ∷ (structureOf (twoTargets 0 1 3) 5) .refusal .number
+    ∷ (structureOf (twoTargets 0 1 3) 16) .refusal .number
     ∷ (nicOf (twoTargets 0 1 3) 2) .refusal .number
-    ∷ (targetOf (twoTargets 0 1 3) 255) .refusal .number
     ∷ (entryOf (twoTargets 0 1 3) 13) .refusal .number
+    ∷ (entryOf (twoTargets 0 1 3) 48) .refusal .number
+    ∷ (structureOf (twoTargets 0 1 3) 17) .refusal .number
+    ∷ (nicOf (twoTargets 0 1 3) 8) .refusal .number
+    ∷ (targetOf (twoTargets 0 1 3) 255) .refusal .number
+    ∷ (entryOf (twoTargets 0 1 3) 49) .refusal .number
     ∷ []
-    ≡ 22 ∷ 22 ∷ 22 ∷ 23 ∷ 23 ∷ 23 ∷ 23 ∷ []
+    ≡ 22 ∷ 22 ∷ 22 ∷ 22 ∷ 22 ∷ 22 ∷ 22 ∷ 22 ∷ 23 ∷ 23 ∷ 23 ∷ 23 ∷ []
 unfolding computing twoTargets unsummed targetBytes
 refusal-numbers = refl
 
 -- the check comes first, with its number and place; refused, every field is 0 and a view is empty
-check-first : (structureOf (twoTargets 0 1 16) 9 ≡ record { refusal = record { number = 10; place = 133 }; id = 0; start = 0; flags = 0 })
+check-first : (structureOf (twoTargets 0 1 16) 9 ≡ record { refusal = record { number = 10; place = 133 }; id = 0; index = 0; start = 0; flags = 0 })
     × ((targetOf (twoTargets 0 1 16) 0) .fields ≡ targetIn [])
     × (viewOf (twoTargets 0 1 16) 2 ≡ [])
 unfolding computing twoTargets unsummed targetBytes

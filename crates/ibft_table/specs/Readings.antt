@@ -6,9 +6,9 @@ use mathlib.Core.Bool.{cond, not, _&&_}
 use lib.ListN.{drop}
 use lib.Dec.{leb, eqb}
 use Rattle.octets.specs.Octets.{byte, word16, word64, part, bytesAt, allZero}
-use Rattle.ibft_table.specs.Layout.{kindOf, slotCount, entryCount, nicSlot, targetSlot}
+use Rattle.ibft_table.specs.Layout.{kindOf, slotCount, entryCount, nicSlot, targetSlot, slotAt, entryAt}
 use Rattle.ibft_table.specs.Verdict.{refuse, firstOf, refusalOf, shown}
-use Rattle.ibft_table.specs.Table.{startOf, present, sizeOf, offsetOf, holdsEntry}
+use Rattle.ibft_table.specs.Table.{startsOf, startIn, presentIn, indexIn, nicsIn, sizeIn, offsetIn, holdsIn}
 use Rattle.ibft_table.specs.Check.{checkTests, checkOf}
 use Rattle.ibft_table.specs.declared.verdict.Verdict.{Verdict}
 use Rattle.ibft_table.specs.declared.verdict.Verdict.the-variants.{Accepted, Refused}
@@ -105,45 +105,100 @@ pciOf word = record { bus = word / 256; device = word / 8 % 32; function = word 
 unfoldable pub headerOf : List ℕ → HeaderReading
 headerOf t = record { refusal = refusalOf (checkOf t); header = headerIn (shown (checkOf t) t) }
 
--- slot k: the check, then 23 for a slot above 4, then 22 for a structure that is missing
-unfoldable pub slotVerdict : List ℕ → ℕ → Verdict
-slotVerdict t k = firstOf (checkTests t ++ (refuse 23 0 (leb slotCount k) ∷ refuse 22 0 (not (present t k)) ∷ []))
+-- the slot that callers call `number`, and the entry
+abbrev pub slotCalled : List ℕ → ℕ → ℕ
+slotCalled starts number = slotAt (nicsIn starts) number
+
+abbrev pub entryCalled : List ℕ → ℕ → ℕ
+entryCalled starts number = entryAt (nicsIn starts) number
+
+-- slot k, asked for by this number: the check, then 23 for a number above 16, then 22 for a structure that is missing
+unfoldable pub slotVerdict : List ℕ → List ℕ → ℕ → ℕ → Verdict
+slotVerdict starts t number k =
+    firstOf (checkTests t ++ (refuse 23 0 (leb slotCount number) ∷ refuse 22 0 (not (presentIn starts k)) ∷ []))
 
 -- the table from slot k's structure on; nothing where its reading is refused
-unfoldable pub structureIn : List ℕ → ℕ → List ℕ
-structureIn t k = shown (slotVerdict t k) (drop (startOf t k) t)
+unfoldable pub structureIn : List ℕ → List ℕ → Verdict → ℕ → List ℕ
+structureIn starts t v k = shown v (drop (startIn starts k) t)
 
--- its kind as its ID, its start, its flags
-unfoldable pub structureFrom : List ℕ → ℕ → Verdict → StructureReading
-structureFrom t k Accepted =
-    record { refusal = refusalOf Accepted; id = (kindOf k) .id; start = startOf t k; flags = byte t (startOf t k + 5) }
-structureFrom t k (Refused r) = record { refusal = r; id = 0; start = 0; flags = 0 }
+-- its Index; 0 where its reading is refused
+unfoldable pub indexShown : List ℕ → List ℕ → Verdict → ℕ → ℕ
+indexShown starts t Accepted k = indexIn starts t k
+indexShown starts t (Refused r) k = 0
+
+-- its kind as its ID, its Index, its start, its flags
+unfoldable pub structureFrom : List ℕ → List ℕ → ℕ → Verdict → StructureReading
+structureFrom starts t k Accepted =
+    record {
+      refusal = refusalOf Accepted;
+      id = (kindOf k) .id;
+      index = indexIn starts t k;
+      start = startIn starts k;
+      flags = byte t (startIn starts k + 5);
+    }
+structureFrom starts t k (Refused r) = record { refusal = r; id = 0; index = 0; start = 0; flags = 0 }
+
+unfoldable pub structureGot : List ℕ → List ℕ → ℕ → StructureReading
+structureGot starts t number =
+    structureFrom starts t (slotCalled starts number) (slotVerdict starts t number (slotCalled starts number))
 
 unfoldable pub structureOf : List ℕ → ℕ → StructureReading
-structureOf t k = structureFrom t k (slotVerdict t k)
+structureOf t number = structureGot (startsOf t) t number
 
--- the initiator, NIC n and Target n: each read from its own offset in the table
+-- the table from that structure on
+unfoldable pub structureViewGot : List ℕ → List ℕ → ℕ → List ℕ
+structureViewGot starts t number =
+    structureIn starts t (slotVerdict starts t number (slotCalled starts number)) (slotCalled starts number)
+
+unfoldable pub structureViewOf : List ℕ → ℕ → List ℕ
+structureViewOf t number = structureViewGot (startsOf t) t number
+
+-- the initiator, NIC n and Target n: each read from its own offset in the table. NIC n and Target n are the n-th by Index, the named
+-- ones first: 23 for n above 7
 unfoldable pub initiatorOf : List ℕ → InitiatorReading
-initiatorOf t = record { refusal = refusalOf (slotVerdict t 0); fields = initiatorIn (structureIn t 0) }
+initiatorOf t =
+    let v = slotVerdict (startsOf t) t 0 0 in
+    record { refusal = refusalOf v; fields = initiatorIn (structureIn (startsOf t) t v 0) }
 
 unfoldable pub nicOf : List ℕ → ℕ → NicReading
-nicOf t n = record { refusal = refusalOf (slotVerdict t (nicSlot n)); fields = nicIn (structureIn t (nicSlot n)) }
+nicOf t n =
+    let v = slotVerdict (startsOf t) t (nicSlot n) (nicSlot n) in
+    record {
+      refusal = refusalOf v;
+      index = indexShown (startsOf t) t v (nicSlot n);
+      fields = nicIn (structureIn (startsOf t) t v (nicSlot n));
+    }
 
 unfoldable pub targetOf : List ℕ → ℕ → TargetReading
-targetOf t n = record { refusal = refusalOf (slotVerdict t (targetSlot n)); fields = targetIn (structureIn t (targetSlot n)) }
+targetOf t n =
+    let v = slotVerdict (startsOf t) t (targetSlot n) (targetSlot n) in
+    record {
+      refusal = refusalOf v;
+      index = indexShown (startsOf t) t v (targetSlot n);
+      fields = targetIn (structureIn (startsOf t) t v (targetSlot n));
+    }
 
--- entry n: the check, then 23 for an entry above 12, then 22 for one that is missing
-unfoldable pub entryVerdict : List ℕ → ℕ → Verdict
-entryVerdict t n = firstOf (checkTests t ++ (refuse 23 0 (leb entryCount n) ∷ refuse 22 0 (not (holdsEntry t n)) ∷ []))
+-- entry n, asked for by this number: the check, then 23 for a number above 48, then 22 for an entry that is missing
+unfoldable pub entryVerdict : List ℕ → List ℕ → ℕ → ℕ → Verdict
+entryVerdict starts t number n =
+    firstOf (checkTests t ++ (refuse 23 0 (leb entryCount number) ∷ refuse 22 0 (not (holdsIn starts t n)) ∷ []))
 
 -- where it stands
-unfoldable pub entryFrom : List ℕ → ℕ → Verdict → EntryReading
-entryFrom t n Accepted = record { refusal = refusalOf Accepted; offset = offsetOf t n; length = sizeOf t n }
-entryFrom t n (Refused r) = record { refusal = r; offset = 0; length = 0 }
+unfoldable pub entryFrom : List ℕ → List ℕ → ℕ → Verdict → EntryReading
+entryFrom starts t n Accepted = record { refusal = refusalOf Accepted; offset = offsetIn starts t n; length = sizeIn starts t n }
+entryFrom starts t n (Refused r) = record { refusal = r; offset = 0; length = 0 }
+
+unfoldable pub entryGot : List ℕ → List ℕ → ℕ → EntryReading
+entryGot starts t number = entryFrom starts t (entryCalled starts number) (entryVerdict starts t number (entryCalled starts number))
 
 unfoldable pub entryOf : List ℕ → ℕ → EntryReading
-entryOf t n = entryFrom t n (entryVerdict t n)
+entryOf t number = entryGot (startsOf t) t number
 
 -- that stretch of the table
+unfoldable pub viewGot : List ℕ → List ℕ → ℕ → List ℕ
+viewGot starts t number =
+    shown (entryVerdict starts t number (entryCalled starts number))
+    (part t (offsetIn starts t (entryCalled starts number)) (sizeIn starts t (entryCalled starts number)))
+
 unfoldable pub viewOf : List ℕ → ℕ → List ℕ
-viewOf t n = shown (entryVerdict t n) (part t (offsetOf t n) (sizeOf t n))
+viewOf t number = viewGot (startsOf t) t number

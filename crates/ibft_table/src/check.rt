@@ -1,14 +1,16 @@
-// The check of a table: refusals 3 to 19, the first that applies.
+// The check of a table: refusals 3 to 19, 33 and 34, the first that applies.
 use crate::check_control::check_control;
 use crate::check_entries::check_entries;
 use crate::check_entries::heap_start;
 use crate::check_header::check_header;
 use crate::check_overlaps::check_overlaps;
-use crate::check_slots::check_slots;
+use crate::check_words::check_words;
 use crate::control::Control;
 use crate::header::Header;
 use crate::layout::length_of;
 use crate::verdict::Verdict;
+use crate::words::control_end;
+use crate::words::word_count;
 ghost use Rattle.ibft_table.specs.Promises.{Check};
 
 // The header, and a table in which nothing is present: Control stands behind the header, and the table ends with it.
@@ -23,18 +25,19 @@ pub fn check(t: &[u8]) -> Verdict
     if let Verdict::Refused(_) = v {
         return v;
     }
-    let v = check_control(t);
-    if let Verdict::Refused(_) = v {
-        return v;
-    }
     let length = length_of(t);
-    let v = check_slots(t, length);
+    let v = check_control(t, length);
     if let Verdict::Refused(_) = v {
         return v;
     }
-    let v = check_overlaps(t);
+    let words = word_count(t);
+    let v = check_words(t, length, control_end(t), words);
     if let Verdict::Refused(_) = v {
         return v;
     }
-    check_entries(t, length, heap_start(t))
+    let v = check_overlaps(t, words);
+    if let Verdict::Refused(_) = v {
+        return v;
+    }
+    check_entries(t, length, heap_start(t, words), words)
 }

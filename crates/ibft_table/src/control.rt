@@ -10,7 +10,7 @@ ghost use Rattle.ibft_table.specs.Layout.{control, controlAt};
 ghost use Rattle.ibft_table.specs.Shapes.{shapeOf};
 ghost use Rattle.ibft_table.specs.Readings.{controlIn};
 
-// Its flags; the words that say where the other structures start are read by slot.
+// Its flags; the words that say where the other structures start are read one by one.
 pub struct Control {
     pub flags: u8,
 }
@@ -20,16 +20,23 @@ impl Control {
 
     pub const VERSION: u8 = 1;
 
+    // Its Length without extra words, and with twelve.
     pub const LENGTH: u16 = 18;
+
+    pub const LONGEST: u16 = Self::LENGTH + 2 * Self::MOST_WORDS as u16;
+
+    pub const MOST_WORDS: u8 = 12;
     // The mask of the flag bits that are not named (flag bit 0: single login).
     pub const RESERVED: u8 = 0xFE;
     // The flag bit that asks for single login.
     pub const SINGLE_LOGIN: u8 = 1;
-    // Where it starts and where it ends.
+    // Where it starts, where it ends without extra words, where its Length stands.
     pub const AT: u16 = 48;
 
     pub const END: u16 = Self::AT + Self::LENGTH;
-    // Its words: Extensions, then slot by slot where the structure starts.
+
+    pub const LENGTH_AT: u16 = Self::AT + 2;
+    // Its words: Extensions, then word by word where a structure starts.
     pub const EXTENSIONS_AT: u16 = 54;
 
     pub const WORDS_AT: u16 = 56;

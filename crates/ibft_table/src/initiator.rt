@@ -3,6 +3,7 @@ use crate::layout::LONGEST_NAME;
 use crate::layout::Shape;
 use crate::layout::StringShape;
 use crate::reading::refusal_of;
+use crate::seats::starts_of;
 use crate::structure::slot_verdict;
 use crate::structure::structure_part;
 use crate::text::Text;
@@ -76,9 +77,10 @@ pub struct InitiatorReading {
 pub fn read_initiator(t: &[u8]) -> InitiatorReading
     ensures { λ r. ⌜ r ≡ initiatorOf (now (t .entry)) ⌝ }
 {
-    let verdict = slot_verdict(t, 0);
+    let starts = starts_of(t);
+    let verdict = slot_verdict(&starts, t, 0, 0);
     InitiatorReading {
         refusal: refusal_of(verdict),
-        fields: Initiator::read(structure_part(t, 0, verdict)),
+        fields: Initiator::read(structure_part(&starts, t, verdict, 0)),
     }
 }

@@ -1,14 +1,16 @@
-// The layout of a table as data: the kinds of structure, the slots, the entries; and where they stand in a table.
+// The layout of a table as data: the kinds of structure, the slots, the entries.
 use crate::control::Control;
 use crate::initiator::Initiator;
 use crate::nic::Nic;
 use crate::target::Target;
-use octets::read::u16_at;
 use octets::read::u32_at;
 ghost use mathlib.Core.Path.{_≡_};
-ghost use Rattle.ibft_table.specs.Layout.{kindOf, indexOf, ownerOf, stringOf, wordAt};
+ghost use mathlib.Core.Bool.{false};
+ghost use Prim.Native.Nat.{_<_};
+ghost use lib.ListN.{getD};
+ghost use Rattle.ibft_table.specs.Layout.{namedEntries, kindOf, indexOf, target, ownerOf, stringOf, string};
 ghost use Rattle.ibft_table.specs.Shapes.{shapeOf, shapeStart, stringShape};
-ghost use Rattle.ibft_table.specs.Table.{lengthOf, startOf, endOf, fieldOf, holdsEntry};
+ghost use Rattle.ibft_table.specs.Table.{lengthOf};
 
 // Where the header's fields stand.
 pub(crate) const LENGTH_AT: u32 = 4;
@@ -53,9 +55,19 @@ impl Shape {
     }
 }
 
-// The slots are numbered in the order of their Control words: initiator, NIC 0, Target 0, NIC 1, Target 1. (What is known of
-// a number is a `match`, which LLVM makes a table; a constant array would be laid on the stack at each call.)
-pub const SLOT_COUNT: u8 = 5;
+// A slot for each structure that a table can have: the five named ones in the order of their Control words (initiator, NIC 0,
+// Target 0, NIC 1, Target 1), then six for extra NICs and six for extra targets. (What is known of a number is a `match`, which
+// LLVM makes a table; a constant array would be laid on the stack at each call.)
+pub const SLOT_COUNT: u8 = 17;
+
+pub const NAMED_COUNT: u8 = 5;
+
+// The most extras of a kind; the first slot of an extra NIC and of an extra target.
+pub const EXTRA_MOST: u8 = 6;
+
+pub const EXTRA_NICS: u8 = 5;
+
+pub const EXTRA_TARGETS: u8 = 11;
 
 // The kind of slot k's structure; past the last slot, slot 0's.
 pub fn kind_of(k: u8) -> Shape
@@ -66,11 +78,23 @@ pub fn kind_of(k: u8) -> Shape
         2 => Target::shape(),
         3 => Nic::shape(),
         4 => Target::shape(),
+        5 => Nic::shape(),
+        6 => Nic::shape(),
+        7 => Nic::shape(),
+        8 => Nic::shape(),
+        9 => Nic::shape(),
+        10 => Nic::shape(),
+        11 => Target::shape(),
+        12 => Target::shape(),
+        13 => Target::shape(),
+        14 => Target::shape(),
+        15 => Target::shape(),
+        16 => Target::shape(),
         _ => Initiator::shape(),
     }
 }
 
-// The Index of slot k's structure; past the last slot, slot 0's.
+// The Index of named slot k's structure, and the least that an extra may have.
 pub fn index_of(k: u8) -> u8
     ensures { λ r. ⌜ r ≡ indexOf k ⌝ }
 {
@@ -82,6 +106,8 @@ pub fn index_of(k: u8) -> u8
         _ => 0,
     }
 }
+
+pub const LEAST_INDEX: u8 = 2;
 
 // A string of a structure: where its length stands (its offset stands 2 further), how long it may be, whether it is a
 // host name.
@@ -96,11 +122,17 @@ pub(crate) const LONGEST_NAME: u16 = 223;
 
 pub(crate) const LONGEST: u16 = 255;
 
-// Entries are numbered slot by slot, in the order of the strings in the structure.
-pub const ENTRY_COUNT: u8 = 13;
+// Entries are numbered slot by slot, in the order of the strings in the structure: 13 of the named slots, one for each extra NIC,
+// five for each extra target.
+pub const ENTRY_COUNT: u8 = 49;
 
-// The slot that entry n is a string of; past the last entry, slot 0.
-pub fn owner_of(n: u8) -> u8
+pub const NAMED_ENTRIES: u8 = 13;
+
+pub(crate) const TARGET_ENTRIES: u8 = NAMED_ENTRIES + EXTRA_MOST;
+
+// The slot of an entry of the named slots.
+pub(crate) fn named_owner(n: u16) -> u8
+    requires { ⌜ n < namedEntries ⌝ }
     ensures { λ r. ⌜ r ≡ ownerOf n ⌝ }
 {
     match n {
@@ -120,8 +152,25 @@ pub fn owner_of(n: u8) -> u8
     }
 }
 
-// Which string of that slot's structure it is; past the last entry, the initiator's name.
-pub fn string_of(n: u8) -> StringShape
+// The slot that entry n is a string of; past the last entry, no slot. (The entry that a caller's number stands for may pass 8 bits.)
+pub fn owner_of(n: u16) -> u8
+    ensures { λ r. ⌜ r ≡ ownerOf n ⌝ }
+{
+    if n < NAMED_ENTRIES as u16 {
+        return named_owner(n);
+    }
+    if n < TARGET_ENTRIES as u16 {
+        return (n - NAMED_ENTRIES as u16) as u8 + EXTRA_NICS;
+    }
+    if n < ENTRY_COUNT as u16 {
+        return ((n - TARGET_ENTRIES as u16) / 5) as u8 + EXTRA_TARGETS;
+    }
+    SLOT_COUNT
+}
+
+// The string of an entry of the named slots.
+fn named_string(n: u16) -> StringShape
+    requires { ⌜ n < namedEntries ⌝ }
     ensures { λ r. ⌜ r ≡ stringShape (stringOf n) ⌝ }
 {
     match n {
@@ -141,51 +190,38 @@ pub fn string_of(n: u8) -> StringShape
     }
 }
 
+// The i-th string of a target.
+fn target_string(i: u16) -> StringShape
+    ensures { λ r. ⌜ r ≡ stringShape (getD (target .stringFields) i (string 34 223 false)) ⌝ }
+{
+    match i {
+        1 => Target::CHAP_NAME,
+        2 => Target::CHAP_SECRET,
+        3 => Target::REVERSE_NAME,
+        4 => Target::REVERSE_SECRET,
+        _ => Target::NAME,
+    }
+}
+
+// Which string of that slot's structure it is; past the last entry, the initiator's name.
+pub fn string_of(n: u16) -> StringShape
+    ensures { λ r. ⌜ r ≡ stringShape (stringOf n) ⌝ }
+{
+    if n < NAMED_ENTRIES as u16 {
+        return named_string(n);
+    }
+    if n < TARGET_ENTRIES as u16 {
+        return Nic::HOST;
+    }
+    if n < ENTRY_COUNT as u16 {
+        return target_string((n - TARGET_ENTRIES as u16) % 5);
+    }
+    Initiator::NAME
+}
+
 // Where the flags stand in every structure, and the CHAP type in one that has it; the CHAP types are 0 to 2.
 pub const FLAGS_AT: u8 = 5;
 
 pub const CHAP_AT: u8 = 32;
 
 pub const CHAP_LAST: u8 = 2;
-
-// Where slot k's Control word stands.
-pub(crate) fn word_at(k: u8) -> u16
-    ensures { λ r. ⌜ r ≡ wordAt k ⌝ }
-{
-    Control::WORDS_AT + 2 * k as u16
-}
-
-// Where slot k's structure starts; 0 where it is absent.
-pub(crate) fn start_of(t: &[u8], k: u8) -> u16
-    ensures { λ r. ⌜ r ≡ startOf (now (t .entry)) k ⌝ }
-{
-    u16_at(t, word_at(k) as usize)
-}
-
-// Where slot k's structure ends. (A structure may start at 0xFFF8, so the end passes 16 bits.)
-pub(crate) fn end_of(t: &[u8], k: u8) -> u32
-    ensures { λ r. ⌜ r ≡ endOf (now (t .entry)) k ⌝ }
-{
-    start_of(t, k) as u32 + kind_of(k).length as u32
-}
-
-// Where entry n's length field stands.
-pub(crate) fn field_of(t: &[u8], n: u8) -> u32
-    ensures { λ r. ⌜ r ≡ fieldOf (now (t .entry)) n ⌝ }
-{
-    start_of(t, owner_of(n)) as u32 + string_of(n).at as u32
-}
-
-// Is entry n present: its structure is, and its length and offset are not both 0?
-pub(crate) fn holds_entry(t: &[u8], n: u8) -> bool
-    ensures { λ r. ⌜ r ≡ holdsEntry (now (t .entry)) n ⌝ }
-{
-    if start_of(t, owner_of(n)) == 0 {
-        return false;
-    }
-    let field = field_of(t, n) as usize;
-    if u16_at(t, field) != 0 {
-        return true;
-    }
-    u16_at(t, field + 2) != 0
-}

@@ -1,8 +1,11 @@
 // The NIC structure.
 use crate::layout::LONGEST;
+use crate::layout::SLOT_COUNT;
 use crate::layout::Shape;
 use crate::layout::StringShape;
 use crate::reading::refusal_of;
+use crate::seats::starts_of;
+use crate::structure::index_shown;
 use crate::structure::slot_verdict;
 use crate::structure::structure_part;
 use crate::text::Text;
@@ -15,6 +18,9 @@ ghost use mathlib.Core.Path.{_≡_};
 ghost use Rattle.ibft_table.specs.Layout.{nic, nicSlot};
 ghost use Rattle.ibft_table.specs.Shapes.{shapeOf};
 ghost use Rattle.ibft_table.specs.Readings.{nicIn, nicOf};
+
+// The most NICs that a table can have.
+const MOST: u8 = 8;
 
 pub struct Nic {
     pub flags: u8,
@@ -47,11 +53,23 @@ impl Nic {
         host: true,
     };
 
-    // The slot of NIC n. (For a large n no `u8` holds it.)
-    pub(crate) fn slot(n: u8) -> u16
+    // The slot of NIC n, the n-th by Index: the named ones, then the extras; past the last, no slot.
+    pub(crate) fn slot(n: u8) -> u8
         ensures { λ r. ⌜ r ≡ nicSlot n ⌝ }
     {
-        1 + 2 * n as u16
+        if MOST <= n {
+            return SLOT_COUNT;
+        }
+        match n {
+            1 => 3,
+            2 => 5,
+            3 => 6,
+            4 => 7,
+            5 => 8,
+            6 => 9,
+            7 => 10,
+            _ => 1,
+        }
     }
 
     // What the layout knows of the kind.
@@ -90,6 +108,7 @@ impl Nic {
 
 pub struct NicReading {
     pub refusal: Refusal,
+    pub index: u8,
     pub fields: Nic,
 }
 
@@ -98,9 +117,11 @@ pub fn read_nic(t: &[u8], n: u8) -> NicReading
     ensures { λ r. ⌜ r ≡ nicOf (now (t .entry)) n ⌝ }
 {
     let slot = Nic::slot(n);
-    let verdict = slot_verdict(t, slot);
+    let starts = starts_of(t);
+    let verdict = slot_verdict(&starts, t, slot, slot as u16);
     NicReading {
         refusal: refusal_of(verdict),
-        fields: Nic::read(structure_part(t, slot, verdict)),
+        index: index_shown(&starts, t, verdict, slot as u16),
+        fields: Nic::read(structure_part(&starts, t, verdict, slot as u16)),
     }
 }

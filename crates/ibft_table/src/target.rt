@@ -1,9 +1,12 @@
 // The target structure.
 use crate::layout::LONGEST;
 use crate::layout::LONGEST_NAME;
+use crate::layout::SLOT_COUNT;
 use crate::layout::Shape;
 use crate::layout::StringShape;
 use crate::reading::refusal_of;
+use crate::seats::starts_of;
+use crate::structure::index_shown;
 use crate::structure::slot_verdict;
 use crate::structure::structure_part;
 use crate::text::Text;
@@ -16,6 +19,9 @@ ghost use mathlib.Core.Path.{_≡_};
 ghost use Rattle.ibft_table.specs.Layout.{target, targetSlot};
 ghost use Rattle.ibft_table.specs.Shapes.{shapeOf};
 ghost use Rattle.ibft_table.specs.Readings.{targetIn, targetOf};
+
+// The most targets that a table can have.
+const MOST: u8 = 8;
 
 pub struct Target {
     pub flags: u8,
@@ -76,11 +82,23 @@ impl Target {
 
     pub const SELECTED: u8 = 2;
 
-    // The slot of Target n. (For a large n no `u8` holds it.)
-    pub(crate) fn slot(n: u8) -> u16
+    // The slot of Target n, the n-th by Index: the named ones, then the extras; past the last, no slot.
+    pub(crate) fn slot(n: u8) -> u8
         ensures { λ r. ⌜ r ≡ targetSlot n ⌝ }
     {
-        2 + 2 * n as u16
+        if MOST <= n {
+            return SLOT_COUNT;
+        }
+        match n {
+            1 => 4,
+            2 => 11,
+            3 => 12,
+            4 => 13,
+            5 => 14,
+            6 => 15,
+            7 => 16,
+            _ => 2,
+        }
     }
 
     // What the layout knows of the kind.
@@ -118,6 +136,7 @@ impl Target {
 
 pub struct TargetReading {
     pub refusal: Refusal,
+    pub index: u8,
     pub fields: Target,
 }
 
@@ -126,9 +145,11 @@ pub fn read_target(t: &[u8], n: u8) -> TargetReading
     ensures { λ r. ⌜ r ≡ targetOf (now (t .entry)) n ⌝ }
 {
     let slot = Target::slot(n);
-    let verdict = slot_verdict(t, slot);
+    let starts = starts_of(t);
+    let verdict = slot_verdict(&starts, t, slot, slot as u16);
     TargetReading {
         refusal: refusal_of(verdict),
-        fields: Target::read(structure_part(t, slot, verdict)),
+        index: index_shown(&starts, t, verdict, slot as u16),
+        fields: Target::read(structure_part(&starts, t, verdict, slot as u16)),
     }
 }

@@ -2,30 +2,32 @@
 --     group-past, field-past     past the last group, past the last field of a group
 --     group-row, field-row       group and field by number
 --     control-field              the one field of a group
---     entry-past                 the first entry past the last slot
+--     entry-past                 the first entry of a structure past the last group
+--     entry-named                a string's entry is one of the named slots'
 --     names-row, names-past      the names of a group's fields by number
 --     found-no-group, found-no-field, found-field, named-nothing, named-found     what a name names, as the code finds it
 --     dotted-none, dotted-some   a name in its group, as the code puts it
 -- Assumes nothing.
 use mathlib.Core.Path.{_≡_, refl, sym, ap, _∙_}
 use mathlib.Core.List.{List, [], _∷_}
-use mathlib.Core.Bool.{false, and-false}
+use mathlib.Core.Bool.{true, false, and-false, _&&_}
 use Prim.Native.Char.{code}
-use Prim.Native.Nat.{ℕ, zero, suc, _+_, _*_, _≤_, _<_}
+use Prim.Native.Nat.{ℕ, _+_, _*_, _-_, _≤_, _<_}
 use native.Mathlib.Decide.{decLe}
 use native.Mathlib.Omega.{arith}
-use borrow.Author.Tests.{lt-ltb, le-ltb, ltb-false, eq-eqb, ne-eqb}
+use borrow.Author.Tests.{lt-ltb, le-ltb, ltb-false, leb-false, eq-eqb, ne-eqb}
 use lib.ListN.{length, getD, take, drop, length-drop, List·getD-eq-default}
 use lib.Seq.{take-all}
-use lib.Dec.{ltb}
-use Rattle.octets.specs.Counting.{first, any, sumTo}
+use lib.Dec.{leb, ltb}
+use Rattle.octets.specs.Counting.{first, any, sumTo, tabulate}
 use Rattle.octets.specs.Octets.{part}
-use Rattle.octets.proofs.CountingLaws.{any-none}
+use Rattle.octets.proofs.CountingLaws.{any-none, tabulate-equal}
+use Rattle.octets.proofs.TestLaws.{and-other}
 use Rattle.text.specs.Split.{indexOf}
 use Rattle.text.specs.Words.{wordNumber}
-use Rattle.ibft_table.specs.Layout.{Slot, slotCount, slotOf, kindOf, firstEntry}
-use Rattle.ibft_table.proofs.LayoutLaws.{slot-past}
-use Rattle.record_text.specs.Fields.{Group, control, groups, groupCount, groupNames, groupOf, fieldIn, fieldCount, dotted, found, fieldNamed}
+use Rattle.ibft_table.specs.Layout.{namedCount, namedEntries, extraTargets, kindOf, firstEntry}
+use Rattle.record_text.specs.Fields.{Group, control, groups, groupCount, groupNames, groupNumber, groupOf, isText, fieldIn, fieldOf, fieldCount, entryOf, dotted, found, fieldNamed}
+use Rattle.record_text.specs.Computing.{computing}
 use Rattle.record_text.specs.declared.fields.Field.{Field}
 use Rattle.record_text.specs.declared.fields.Found.{Found}
 use Rattle.record_text.specs.declared.fields.Found.the-variants.{Number, Nothing}
@@ -56,17 +58,26 @@ field-row group m n r e k = e ∙ ap (fieldIn group) (sym k)
 pub group-row : (m g n : ℕ) (r : Field) → r ≡ fieldIn (groupOf m) n → g ≡ m → r ≡ fieldIn (groupOf g) n
 group-row m g n r e k = e ∙ ap (λ (j : ℕ). fieldIn (groupOf j) n) (sym k)
 
--- past the last slot the layout has initiators, of one string each
-pub entry-past : (k : ℕ) → slotCount ≤ k → firstEntry k ≡ k + 8
-unfolding firstEntry sumTo kindOf slotOf
-entry-past zero h = absurd (omega arith)
-entry-past (suc k) h =
-    elim (decLe slotCount k) [
-      | yes l ↦
-          let one : length ((kindOf k) .stringFields) ≡ 1 = ap (λ (s : Slot). length (s .kind .stringFields)) (slot-past k l) in
-          omega (arith, entry-past k l, one)
-      | no l ↦ let e : k ≡ 4 = omega arith in rw e
-    ]
+-- behind the named slots the layout has six NICs, of one string each
+entries-past : tabulate (λ (i : ℕ). firstEntry (namedCount + i)) 0 7 ≡ tabulate (λ (i : ℕ). namedEntries + i) 0 7
+unfolding tabulate firstEntry sumTo kindOf
+entries-past = refl
+
+pub entry-past : (k : ℕ) → namedCount ≤ k → k ≤ extraTargets → firstEntry k ≡ namedEntries + (k - namedCount)
+entry-past k low high =
+    let same : k ≡ namedCount + (k - namedCount) = omega arith in
+    ap firstEntry same
+    ∙ tabulate-equal (λ (i : ℕ). firstEntry (namedCount + i)) (λ (i : ℕ). namedEntries + i) 7 entries-past (k - namedCount) (omega arith)
+
+-- a string of the groups that there are is an entry of the named slots
+beyond-named : any (16 * groupCount) (λ (f : ℕ). isText ((fieldOf f) .notation) && leb namedEntries (entryOf f)) ≡ false
+unfolding computing
+beyond-named = refl
+
+pub entry-named : (f : ℕ) → groupNumber f < groupCount → isText ((fieldOf f) .notation) ≡ true → entryOf f < namedEntries
+entry-named f group text =
+    let none = any-none (16 * groupCount) (λ (f : ℕ). isText ((fieldOf f) .notation) && leb namedEntries (entryOf f)) beyond-named f (omega arith) in
+    leb-false namedEntries (entryOf f) (and-other (isText ((fieldOf f) .notation)) _ none text)
 
 -- ---- names
 

@@ -1,15 +1,16 @@
 -- Laws of what a table tells of a field. A reading by number is accepted exactly where the check accepts the table and the record has
--- what is asked for; what it shows then are the field's bytes, and a reading that does not return 0 shows none.
+-- what is asked for; what it shows then are the field's bytes, and a reading that does not return 0 shows none. The text speaks of the named
+-- slots, whose numbers are their own.
 --     header-none, flags-field, table-id-field, id-field     the bytes of a field, by the reading of the header
 --     entry-none, entry-field                                .. by the reading and the view of an entry
 --     structure-none, structure-field                        .. by the reading and the view of a structure
---     number-field, number-past                              .. of a number that is a field, and of one that is none
+--     number-field, number-past, no-group                    .. of a number that is a field, and of one that is none
 --     line-hidden, line-told, line-untold, shown-plain       a line, by a field's bytes
 --     hidden-same, hidden-text-same, hidden-other            with secrets hidden a text does not hang on their bytes
 -- Assumes nothing.
 use mathlib.Core.Path.{_≡_, refl, sym, ap, _∙_}
 use mathlib.Core.List.{List, [], _∷_, _++_}
-use mathlib.Core.Bool.{Bool, true, false, not, _&&_, _||_}
+use mathlib.Core.Bool.{Bool, true, false, not, and-false, _&&_, _||_}
 use mathlib.Core.Option.{Option, none, some, Option·map}
 use Prim.Native.Nat.{ℕ, zero, suc, _+_, _-_, _%_, _≤_, _<_}
 use native.Mathlib.Decide.{decLe}
@@ -23,12 +24,12 @@ use Rattle.octets.proofs.CountingLaws.{length-tabulate, getD-tabulate, gather-s
 use Rattle.octets.proofs.ReadLaws.{part-within, part-from}
 use Rattle.octets.proofs.TestLaws.{and-both}
 use Rattle.text.specs.Split.{each}
-use Rattle.ibft_table.specs.Layout.{slotCount, entryCount, slotOf, kindOf}
-use Rattle.ibft_table.specs.Table.{startOf, present, sizeOf, offsetOf, holdsEntry}
+use Rattle.ibft_table.specs.Layout.{slotCount, entryCount, namedCount, namedEntries, kindOf, opened}
+use Rattle.ibft_table.specs.Table.{startsOf, nicsIn, startOf, present, sizeOf, offsetOf, holdsEntry}
 use Rattle.ibft_table.specs.Verdict.{refuse, firstOf, refusalOf, shown}
 use Rattle.ibft_table.specs.Check.{checkTests, checkOf}
-use Rattle.ibft_table.specs.Record.{recordOf, listed, contentOf, shownIf, bodySize}
-use Rattle.ibft_table.specs.Readings.{headerOf, slotVerdict, structureIn, structureFrom, structureOf, entryVerdict, entryFrom, entryOf, viewOf}
+use Rattle.ibft_table.specs.Record.{recordOf, listed, contentIn, contentOf, shownIf, bodySize}
+use Rattle.ibft_table.specs.Readings.{headerOf, slotCalled, slotVerdict, structureIn, structureFrom, structureGot, structureOf, structureViewGot, structureViewOf, entryCalled, entryVerdict, entryFrom, entryGot, entryOf, viewGot, viewOf}
 use Rattle.ibft_table.specs.declared.header.Header.{Header}
 use Rattle.ibft_table.specs.declared.header.HeaderReading.{HeaderReading}
 use Rattle.ibft_table.specs.declared.structure.StructureReading.{StructureReading}
@@ -38,10 +39,11 @@ use Rattle.ibft_table.specs.declared.verdict.Verdict.{Verdict}
 use Rattle.ibft_table.specs.declared.verdict.Verdict.the-variants.{Accepted, Refused}
 use Rattle.ibft_table.proofs.VerdictLaws.{append-refused}
 use Rattle.ibft_table.proofs.ReadingLaws.{check-accepts, reading-accepted}
-use Rattle.ibft_laws.proofs.ReadingLaws.{header-gives}
-use Rattle.record_text.specs.Fields.{groupOf, groupNumber, firstSlotGroup, isText, fieldIn, fieldOf, fieldCount, entryOf as entryNumber}
+use Rattle.ibft_laws.proofs.ReadingLaws.{verdictAt, structureAt, header-gives}
+use Rattle.record_text.specs.Fields.{groupCount, groupOf, groupNumber, firstSlotGroup, isText, fieldIn, fieldOf, fieldCount, isField, entryOf as entryNumber}
 use Rattle.record_text.specs.Tell.{within, structureField, recordField, bytesIn, ifAccepted, bytesOf, isTold, lineWith, lineOf, tellLine, hiddenLine, shownLine, tellHidden, fieldFrom}
 use Rattle.record_text.specs.declared.fields.Field.{Field as FieldLayout}
+use Rattle.record_text.proofs.FieldsLaws.{entry-named}
 use Rattle.record_text.proofs.ValueLaws.{each-at}
 
 -- ---- a reading by number: 23 past the last, 22 where it is missing
@@ -81,8 +83,8 @@ fits : ℕ → FieldLayout → Bool
 fits size field = isText (field .notation) || (leb 5 (field .at) && leb (field .at + field .width) (5 + size))
 
 -- group by group
-group-fits : (k : ℕ) → k < slotCount → (n : ℕ) → fits (bodySize (kindOf k)) (fieldIn (groupOf (firstSlotGroup + k)) n) ≡ true
-unfolding fits each kindOf slotOf groupOf fieldIn isText
+group-fits : (k : ℕ) → k < namedCount → (n : ℕ) → fits (bodySize (kindOf k)) (fieldIn (groupOf (firstSlotGroup + k)) n) ≡ true
+unfolding fits each kindOf groupOf fieldIn isText
 group-fits zero h n = each-at (fits 65) ((groupOf 2) .fields) n _ refl refl
 group-fits (suc zero) h n = each-at (fits 93) ((groupOf 3) .fields) n _ refl refl
 group-fits (suc (suc zero)) h n = each-at (fits 29) ((groupOf 4) .fields) n _ refl refl
@@ -140,15 +142,27 @@ module _ (t : List ℕ) where
   check-accepted Accepted e ok = refl
   check-accepted (Refused r) e ok = reading-accepted t false false (Refused r) (append-refused (checkTests t) _ r e) ok
 
-  structure-refusal : (k : ℕ) (v : Verdict) → (structureFrom t k v) .refusal ≡ refusalOf v
+  structure-refusal : (k : ℕ) (v : Verdict) → (structureFrom (startsOf t) t k v) .refusal ≡ refusalOf v
   unfolding structureFrom refusalOf
   structure-refusal k Accepted = refl
   structure-refusal k (Refused r) = refl
 
-  entry-refusal : (n : ℕ) (v : Verdict) → (entryFrom t n v) .refusal ≡ refusalOf v
+  entry-refusal : (n : ℕ) (v : Verdict) → (entryFrom (startsOf t) t n v) .refusal ≡ refusalOf v
   unfolding entryFrom refusalOf
   entry-refusal n Accepted = refl
   entry-refusal n (Refused r) = refl
+
+  -- a named slot and a named entry are called by their own numbers
+  slot-named : (k : ℕ) → k < namedCount → slotCalled (startsOf t) k ≡ k
+  unfolding opened
+  slot-named k h = rw (lt-ltb k (namedCount + nicsIn (startsOf t)) (omega arith))
+
+  own-number : (n : ℕ) → n < namedEntries → entryCalled (startsOf t) n ≡ n
+  unfolding opened
+  own-number n h = rw (lt-ltb n (namedEntries + nicsIn (startsOf t)) (omega arith))
+
+  abbrev pub verdictOf : ℕ → Verdict
+  verdictOf n = entryVerdict (startsOf t) t n n
 
 module _ (t : List ℕ) (f : ℕ) where
   -- the OEM fields and Control's flags, by the reading of the header
@@ -192,7 +206,7 @@ module _ (t : List ℕ) (f : ℕ) where
           field = rw (group, ne-eqb (f % 16) 1 e)
 
   -- a structure's fields
-  module _ (group : firstSlotGroup ≤ groupNumber f) where
+  module _ (group : firstSlotGroup ≤ groupNumber f) (named : groupNumber f < groupCount) where
     abbrev pub slot : ℕ
     slot = groupNumber f - firstSlotGroup
 
@@ -202,78 +216,104 @@ module _ (t : List ℕ) (f : ℕ) where
 
     -- a string, as a part of the table; by the reading and the view of its entry
     pub entry-part : isText ((fieldOf f) .notation) ≡ true → (n : ℕ) → n ≡ entryNumber f
-        → ifAccepted (entryVerdict t n) (some (part t (offsetOf t n) (sizeOf t n))) ≡ fieldFrom t f
-    unfolding structureField entryVerdict recordOf listed contentOf
+        → ifAccepted (verdictOf t n) (some (part t (offsetOf t n) (sizeOf t n))) ≡ fieldFrom t f
+    unfolding structureField entryVerdict recordOf listed contentOf contentIn
     entry-part text n number =
         reading-listed t ((contentOf t) .entry) (λ (x : Option (List ℕ)). x) entryCount n (holdsEntry t n) _ refl (λ h. refl)
         ∙ (rw (text, ← number) at structure-bytes)
 
     module _ (text : isText ((fieldOf f) .notation) ≡ true) (n : ℕ) (number : n ≡ entryNumber f) (reading : EntryReading) (is : reading ≡ entryOf t n) where
-      entry-shown : ifAccepted (entryVerdict t n) (some (viewOf t n)) ≡ fieldFrom t f
-      unfolding viewOf
-      entry-shown = shown-whole (entryVerdict t n) (part t (offsetOf t n) (sizeOf t n)) ∙ entry-part text n number
+      called : entryCalled (startsOf t) n ≡ n
+      called = own-number t n (omega (arith, entry-named f named text))
 
-      entry-number : reading .refusal .number ≡ (refusalOf (entryVerdict t n)) .number
-      unfolding entryOf
-      entry-number = ap (λ (r : EntryReading). r .refusal .number) is ∙ ap (λ (r : Refusal). r .number) (entry-refusal t n (entryVerdict t n))
+      entry-shown : ifAccepted (verdictOf t n) (some (viewOf t n)) ≡ fieldFrom t f
+      unfolding viewOf viewGot
+      entry-shown =
+          ap (λ (m : ℕ). ifAccepted (verdictOf t n) (some (shown (entryVerdict (startsOf t) t n m) (part t (offsetOf t m) (sizeOf t m))))) called
+          ∙ shown-whole (verdictOf t n) (part t (offsetOf t n) (sizeOf t n))
+          ∙ entry-part text n number
+
+      entry-number : reading .refusal .number ≡ (refusalOf (verdictOf t n)) .number
+      unfolding entryOf entryGot
+      entry-number =
+          ap (λ (r : EntryReading). r .refusal .number) is
+          ∙ ap (λ (m : ℕ). (entryFrom (startsOf t) t m (entryVerdict (startsOf t) t n m)) .refusal .number) called
+          ∙ ap (λ (r : Refusal). r .number) (entry-refusal t n (verdictOf t n))
 
       pub entry-none : (reading .refusal .number ≡ 0 → ⊥) → none ≡ fieldFrom t f
-      entry-none h = refused-nothing (entryVerdict t n) _ (λ z. h (entry-number ∙ z)) ∙ entry-shown
+      entry-none h = refused-nothing (verdictOf t n) _ (λ z. h (entry-number ∙ z)) ∙ entry-shown
 
       pub entry-field : reading .refusal .number ≡ 0 → (view : List ℕ) → view ≡ viewOf t n → some view ≡ fieldFrom t f
       unfolding entryVerdict
       entry-field ok view e =
-          let accepted = reading-accepted t _ _ (entryVerdict t n) refl (sym entry-number ∙ ok) in
-          ap some e ∙ accepted-bytes (entryVerdict t n) (some (viewOf t n)) accepted ∙ entry-shown
+          let accepted = reading-accepted t _ _ (verdictOf t n) refl (sym entry-number ∙ ok) in
+          ap some e ∙ accepted-bytes (verdictOf t n) (some (viewOf t n)) accepted ∙ entry-shown
 
     -- another field, as a part of the table; by the reading and the view of its structure
     module _ (plain : isText ((fieldOf f) .notation) ≡ false) where
-      pub structure-fits : slot < slotCount → (5 ≤ (fieldOf f) .at) × ((fieldOf f) .at + (fieldOf f) .width ≤ 5 + bodySize (kindOf slot))
+      pub structure-fits : (5 ≤ (fieldOf f) .at) × ((fieldOf f) .at + (fieldOf f) .width ≤ 5 + bodySize (kindOf slot))
       unfolding fieldOf
-      structure-fits h =
+      structure-fits =
           let same : firstSlotGroup + slot ≡ groupNumber f = omega arith in
-          fits-plain (bodySize (kindOf slot)) (fieldOf f) plain (rw same at (group-fits slot h (f % 16)))
+          fits-plain (bodySize (kindOf slot)) (fieldOf f) plain (rw same at (group-fits slot (omega arith) (f % 16)))
 
-      pub structure-part : ifAccepted (slotVerdict t slot) (some (part t (startOf t slot + (fieldOf f) .at) ((fieldOf f) .width))) ≡ fieldFrom t f
-      unfolding structureField slotVerdict recordOf listed contentOf
+      pub structure-part : ifAccepted (verdictAt t slot) (some (part t (startOf t slot + (fieldOf f) .at) ((fieldOf f) .width))) ≡ fieldFrom t f
+      unfolding structureField slotVerdict recordOf listed contentOf contentIn
       structure-part =
           reading-listed t ((contentOf t) .structure) (Option·map (within (fieldOf f))) slotCount slot (present t slot) _ refl
-          (λ h. body-part t (present t slot) (startOf t slot) (bodySize (kindOf slot)) (fieldOf f) (structure-fits h))
+          (λ h. body-part t (present t slot) (startOf t slot) (bodySize (kindOf slot)) (fieldOf f) structure-fits)
           ∙ (rw plain at structure-bytes)
 
     module _ (plain : isText ((fieldOf f) .notation) ≡ false) (reading : StructureReading) (is : reading ≡ structureOf t slot) where
-      structure-shown : ifAccepted (slotVerdict t slot) (some (part (structureIn t slot) ((fieldOf f) .at) ((fieldOf f) .width))) ≡ fieldFrom t f
-      unfolding structureIn
-      structure-shown = shown-part (slotVerdict t slot) t (startOf t slot) ((fieldOf f) .at) ((fieldOf f) .width) ∙ structure-part plain
+      slot-own : slotCalled (startsOf t) slot ≡ slot
+      slot-own = slot-named t slot (omega arith)
 
-      structure-number : reading .refusal .number ≡ (refusalOf (slotVerdict t slot)) .number
-      unfolding structureOf
-      structure-number = ap (λ (r : StructureReading). r .refusal .number) is ∙ ap (λ (r : Refusal). r .number) (structure-refusal t slot (slotVerdict t slot))
+      view-own : structureViewOf t slot ≡ structureAt t slot
+      unfolding structureViewOf structureViewGot
+      view-own = ap (λ (k : ℕ). structureIn (startsOf t) t (slotVerdict (startsOf t) t slot k) k) slot-own
+
+      structure-shown : ifAccepted (verdictAt t slot) (some (part (structureAt t slot) ((fieldOf f) .at) ((fieldOf f) .width))) ≡ fieldFrom t f
+      unfolding structureIn
+      structure-shown = shown-part (verdictAt t slot) t (startOf t slot) ((fieldOf f) .at) ((fieldOf f) .width) ∙ structure-part plain
+
+      structure-number : reading .refusal .number ≡ (refusalOf (verdictAt t slot)) .number
+      unfolding structureOf structureGot
+      structure-number =
+          ap (λ (r : StructureReading). r .refusal .number) is
+          ∙ ap (λ (k : ℕ). (structureFrom (startsOf t) t k (slotVerdict (startsOf t) t slot k)) .refusal .number) slot-own
+          ∙ ap (λ (r : Refusal). r .number) (structure-refusal t slot (verdictAt t slot))
 
       pub structure-none : (reading .refusal .number ≡ 0 → ⊥) → none ≡ fieldFrom t f
-      structure-none h = refused-nothing (slotVerdict t slot) _ (λ z. h (structure-number ∙ z)) ∙ structure-shown
+      structure-none h = refused-nothing (verdictAt t slot) _ (λ z. h (structure-number ∙ z)) ∙ structure-shown
 
       pub structure-field : reading .refusal .number ≡ 0 → (field : FieldLayout) → field ≡ fieldOf f
-          → (view bytes : List ℕ) → view ≡ structureIn t slot → bytes ≡ part view (field .at) (field .width) → some bytes ≡ fieldFrom t f
+          → (view bytes : List ℕ) → view ≡ structureViewOf t slot → bytes ≡ part view (field .at) (field .width) → some bytes ≡ fieldFrom t f
       unfolding slotVerdict
       structure-field ok field e view bytes shows is-part =
-          let accepted = reading-accepted t _ _ (slotVerdict t slot) refl (sym structure-number ∙ ok) in
-          let same : bytes ≡ part (structureIn t slot) ((fieldOf f) .at) ((fieldOf f) .width) = is-part ∙ rw (shows, e) in
-          ap some same ∙ accepted-bytes (slotVerdict t slot) _ accepted ∙ structure-shown
+          let accepted = reading-accepted t _ _ (verdictAt t slot) refl (sym structure-number ∙ ok) in
+          let same : bytes ≡ part (structureAt t slot) ((fieldOf f) .at) ((fieldOf f) .width) = is-part ∙ rw (shows, view-own, e) in
+          ap some same ∙ accepted-bytes (verdictAt t slot) _ accepted ∙ structure-shown
 
 -- a number that is a field, and one that is none
-module _ (t : List ℕ) (f : ℕ) (count : ℕ) (is : count ≡ fieldCount (groupNumber f)) where
-  pub number-field : f % 16 < count → fieldFrom t f ≡ bytesOf t f
-  unfolding bytesOf bytesIn
-  number-field h = rw (← is, lt-ltb (f % 16) count h)
-
-  pub number-past : count ≤ f % 16 → none ≡ bytesOf t f
+module _ (t : List ℕ) (f : ℕ) where
+  no-field : isField (groupNumber f) (f % 16) ≡ false → none ≡ bytesOf t f
   unfolding bytesOf bytesIn ifAccepted
-  number-past h = rw (← is, le-ltb (f % 16) count h) (nothing (checkOf t))
+  no-field e = rw e (nothing (checkOf t))
     where
       nothing : (v : Verdict) → none ≡ ifAccepted v none
       nothing Accepted = refl
       nothing (Refused r) = refl
+
+  pub no-group : groupCount ≤ groupNumber f → none ≡ bytesOf t f
+  no-group h = no-field (rw (le-ltb (groupNumber f) groupCount h))
+
+  module _ (count : ℕ) (is : count ≡ fieldCount (groupNumber f)) where
+    pub number-field : groupNumber f < groupCount → f % 16 < count → fieldFrom t f ≡ bytesOf t f
+    unfolding bytesOf bytesIn
+    number-field h l = rw (lt-ltb (groupNumber f) groupCount h, ← is, lt-ltb (f % 16) count l)
+
+    pub number-past : count ≤ f % 16 → none ≡ bytesOf t f
+    number-past h = no-field (rw (← is, le-ltb (f % 16) count h, and-false))
 
 -- ---- a line
 

@@ -27,28 +27,29 @@ use Rattle.text.specs.Words.{wordCount, goodList}
 use Rattle.text.specs.Computing.{computing}
 use Rattle.notation.specs.Escape.{stringOf, stringText}
 use Rattle.notation.proofs.EscapeLaws.{string-back}
-use Rattle.ibft_table.specs.Layout.{slotCount, slotOf, kindOf, chapAt}
+use Rattle.ibft_table.specs.Layout.{slotCount, namedCount, kindOf, chapAt}
 use Rattle.ibft_table.specs.Verdict.{refuse, firstOf}
-use Rattle.ibft_table.specs.Table.{startOf, present, endOf, offsetOf, sizeOf}
+use Rattle.ibft_table.specs.Table.{startOf, present, endIn, offsetOf, sizeOf}
 use Rattle.ibft_table.specs.Check.{padded, checkTests, checkOf}
-use Rattle.ibft_table.specs.Record.{recordOf, listed, contentOf}
-use Rattle.ibft_table.specs.Readings.{slotVerdict, entryVerdict}
+use Rattle.ibft_table.specs.Record.{recordOf, listed, contentIn, contentOf}
+use Rattle.ibft_table.specs.Readings.{slotVerdict}
 use Rattle.ibft_table.specs.declared.verdict.Verdict.{Verdict}
 use Rattle.ibft_table.specs.declared.verdict.Verdict.the-variants.{Accepted, Refused}
 use Rattle.ibft_table.proofs.VerdictLaws.{passes, append-passes}
 use Rattle.ibft_laws.specs.Facts.{HeaderFacts, SlotFacts}
 use Rattle.ibft_laws.proofs.AcceptedLaws.{accepted-facts}
 use Rattle.ibft_laws.proofs.LayoutLaws.{slot-fits}
-use Rattle.record_text.specs.Fields.{Group, oem, groups, groupCount, groupOf, groupNumber, firstSlotGroup, isText, field, always, fieldIn, fieldOf, fieldCount, entryOf as entryNumber}
+use Rattle.ibft_laws.proofs.TableLaws.{slot-kept}
+use Rattle.ibft_laws.proofs.ReadingLaws.{verdictAt}
+use Rattle.record_text.specs.Fields.{Group, oem, groups, groupCount, groupOf, groupNumber, firstSlotGroup, isText, field, always, fieldIn, fieldOf, fieldCount, isField, entryOf as entryNumber}
 use Rattle.record_text.specs.Value.{chapTypes, modes, valueText, fieldText, fieldBytes}
 use Rattle.record_text.specs.Tell.{recordField, bytesIn, ifAccepted, bytesOf, fieldFrom}
 use Rattle.record_text.specs.declared.fields.Field.{Field as FieldLayout}
 use Rattle.record_text.specs.declared.fields.Notation.{Notation}
 use Rattle.record_text.specs.declared.fields.Notation.the-variants.{Oem, Mode, Flags, Number, Address, Mac, Pci, Chap, Text}
-use Rattle.record_text.proofs.FieldsLaws.{group-past}
 use Rattle.record_text.proofs.ValueLaws.{each-at}
 use Rattle.record_text.proofs.ValueBackLaws.{Small, Said, take-small, field-back}
-use Rattle.record_text.proofs.TellLaws.{number-field, structure-part, structure-fits, entry-part}
+use Rattle.record_text.proofs.TellLaws.{verdictOf, number-field, structure-part, structure-fits, entry-part}
 
 -- ---- bytes of a table, and a verdict that shows them
 
@@ -66,13 +67,15 @@ same-bytes a b e = cc
 
 -- a number that has bytes is that of a field
 numbered : (t : List ℕ) (f : ℕ) (bytes : List ℕ) → bytesOf t f ≡ some bytes
-    → (checkOf t ≡ Accepted) × (f % 16 < fieldCount (groupNumber f)) × (fieldFrom t f ≡ some bytes)
+    → (checkOf t ≡ Accepted) × (groupNumber f < groupCount) × (f % 16 < fieldCount (groupNumber f)) × (fieldFrom t f ≡ some bytes)
 unfolding bytesOf bytesIn
 numbered t f bytes e =
     let both = some-accepted (checkOf t) (bytesIn (recordOf t) f) bytes e in
-    let below = go (ltb (f % 16) (fieldCount (groupNumber f))) (recordField (recordOf t) f) (both .1) in
-    let number = ltb-true (f % 16) (fieldCount (groupNumber f)) below in
-    (both .0, number, number-field t f (fieldCount (groupNumber f)) refl number ∙ e)
+    let is = go (isField (groupNumber f) (f % 16)) (recordField (recordOf t) f) (both .1) in
+    let below = and-both (ltb (groupNumber f) groupCount) _ is in
+    let group = ltb-true (groupNumber f) groupCount (below .0) in
+    let number = ltb-true (f % 16) (fieldCount (groupNumber f)) (below .1) in
+    (both .0, group, number, number-field t f (fieldCount (groupNumber f)) refl group number ∙ e)
   where
     go : (b : Bool) (o : Option (List ℕ)) → cond b o none ≡ some bytes → b ≡ true
     go true o h = refl
@@ -95,9 +98,9 @@ mask-low b j k small e =
     omega (arith, high, div-add-mod' b (2 ^ k), mod-lt b (pow-pos k))
 
 -- flags without reserved bits are below the number that the names of all have together
-flags-low : (k : ℕ) → k < slotCount → (b : ℕ) → b < 256 → bitAnd b ((kindOf k) .reserved) ≡ 0
+flags-low : (k : ℕ) → k < namedCount → (b : ℕ) → b < 256 → bitAnd b ((kindOf k) .reserved) ≡ 0
     → (goodList ((groupOf (firstSlotGroup + k)) .flags) ≡ true) × (b < 2 ^ wordCount ((groupOf (firstSlotGroup + k)) .flags))
-unfolding computing kindOf slotOf groupOf
+unfolding computing kindOf groupOf
 flags-low zero h b small e = (refl, mask-low b 6 2 small e)
 flags-low (suc zero) h b small e = (refl, mask-low b 5 3 small e)
 flags-low (suc (suc zero)) h b small e = (refl, mask-low b 4 4 small e)
@@ -120,8 +123,8 @@ suitsAt chap at Text = true
 suits : Bool → FieldLayout → Bool
 suits chap x = suitsAt chap (x .at) (x .notation)
 
-group-suits : (k : ℕ) → k < slotCount → (n : ℕ) → suits ((kindOf k) .chap) (fieldIn (groupOf (firstSlotGroup + k)) n) ≡ true
-unfolding suits suitsAt each kindOf slotOf groupOf fieldIn
+group-suits : (k : ℕ) → k < namedCount → (n : ℕ) → suits ((kindOf k) .chap) (fieldIn (groupOf (firstSlotGroup + k)) n) ≡ true
+unfolding suits suitsAt each kindOf groupOf fieldIn
 group-suits zero h n = each-at (suits false) ((groupOf 2) .fields) n _ refl refl
 group-suits (suc zero) h n = each-at (suits false) ((groupOf 3) .fields) n _ refl refl
 group-suits (suc (suc zero)) h n = each-at (suits true) ((groupOf 4) .fields) n _ refl refl
@@ -196,11 +199,15 @@ module _ (t : List ℕ) (small : Small t) (f : ℕ) (bytes : List ℕ) (told : b
   accepted : checkOf t ≡ Accepted
   accepted = numbered t f bytes told .0
 
+  -- its group is one of those that there are
+  pub told-group : groupNumber f < groupCount
+  told-group = numbered t f bytes told .1
+
   pub told-number : f % 16 < fieldCount (groupNumber f)
-  told-number = numbered t f bytes told .1
+  told-number = numbered t f bytes told .2
 
   from : fieldFrom t f ≡ some bytes
-  from = numbered t f bytes told .2
+  from = numbered t f bytes told .3
 
   record-has : recordField (recordOf t) f ≡ some bytes
   record-has = some-accepted (checkOf t) _ bytes from .1
@@ -226,7 +233,7 @@ module _ (t : List ℕ) (small : Small t) (f : ℕ) (bytes : List ℕ) (told : b
     table-id-layout e = rw (group, e)
 
     table-id-bytes : f % 16 ≡ 1 → bytes ≡ part t 16 8
-    unfolding recordField recordOf listed contentOf
+    unfolding recordField recordOf listed contentOf contentIn
     table-id-bytes e = sym (same-bytes (part t 16 8) bytes (rw (group, e) at record-has))
 
     id-layout : f % 16 ≡ 0 → fieldOf f ≡ field Oem 0 6
@@ -234,7 +241,7 @@ module _ (t : List ℕ) (small : Small t) (f : ℕ) (bytes : List ℕ) (told : b
     id-layout e = rw (group, e)
 
     id-bytes : f % 16 ≡ 0 → bytes ≡ part t 10 6
-    unfolding recordField recordOf listed contentOf
+    unfolding recordField recordOf listed contentOf contentIn
     id-bytes e = sym (same-bytes (part t 10 6) bytes (rw (group, e) at record-has))
 
     oem-stands : Stands
@@ -267,7 +274,7 @@ module _ (t : List ℕ) (small : Small t) (f : ℕ) (bytes : List ℕ) (told : b
     mode-layout e = rw (group, e)
 
     mode-bytes : bytes ≡ byte t 53 ∷ []
-    unfolding recordField recordOf listed contentOf
+    unfolding recordField recordOf listed contentOf contentIn
     mode-bytes = sym (same-bytes (byte t 53 ∷ []) bytes (rw group at record-has))
 
     mode-stands : Stands
@@ -275,7 +282,7 @@ module _ (t : List ℕ) (small : Small t) (f : ℕ) (bytes : List ℕ) (told : b
     mode-stands =
         let below : f % 16 < 1 = rw group at told-number in
         let layout = mode-layout (omega arith) in
-        let flags = accepted-facts t accepted .control .starts .reserved in
+        let flags = accepted-facts t accepted .control .reserved in
         let low : byte bytes 0 < wordCount modes = rw mode-bytes (mode-low (byte t 53) (small 53) flags) in
         record {
           start = 53;
@@ -290,8 +297,8 @@ module _ (t : List ℕ) (small : Small t) (f : ℕ) (bytes : List ℕ) (told : b
     slot = groupNumber f - firstSlotGroup
 
     module _ (plain : isText ((fieldOf f) .notation) ≡ false) where
-      shown : (slotVerdict t slot ≡ Accepted) × (some (part t (startOf t slot + (fieldOf f) .at) ((fieldOf f) .width)) ≡ some bytes)
-      shown = some-accepted (slotVerdict t slot) _ bytes (structure-part t f group plain ∙ from)
+      shown : (verdictAt t slot ≡ Accepted) × (some (part t (startOf t slot + (fieldOf f) .at) ((fieldOf f) .width)) ≡ some bytes)
+      shown = some-accepted (verdictAt t slot) _ bytes (structure-part t f group told-group plain ∙ from)
 
       bytes-are : bytes ≡ part t (startOf t slot + (fieldOf f) .at) ((fieldOf f) .width)
       bytes-are = sym (same-bytes _ bytes (shown .1))
@@ -303,13 +310,16 @@ module _ (t : List ℕ) (small : Small t) (f : ℕ) (bytes : List ℕ) (told : b
       below : slot < slotCount
       below = leb-false slotCount slot (there .0)
 
+      named : slot < namedCount
+      named = omega (arith, told-group)
+
       abbrev facts : SlotFacts t slot
-      facts = accepted-facts t accepted .slot slot below (there .1)
+      facts = slot-kept t accepted slot below (there .1)
 
       lies : startOf t slot + (fieldOf f) .at + (fieldOf f) .width ≤ length t
-      unfolding endOf
+      unfolding endIn
       lies =
-          let within = structure-fits t f group plain below in
+          let within = structure-fits t f group told-group plain in
           let whole = accepted-facts t accepted .header .whole in
           let inside = facts .inside in
           let kind = slot-fits slot below in
@@ -326,10 +336,10 @@ module _ (t : List ℕ) (small : Small t) (f : ℕ) (bytes : List ℕ) (told : b
       unfolding fieldOf suits
       structure-said h =
           said ((groupOf (groupNumber f)) .flags) ((kindOf slot) .chap) ((fieldOf f) .at) ((fieldOf f) .notation) bytes
-          (rw group-is at (group-suits slot below (f % 16))) plain
+          (rw group-is at (group-suits slot named (f % 16))) plain
           (λ e.
           let here : byte bytes 0 ≡ byte t (startOf t slot + 5) = first-byte h ∙ ap (λ (n : ℕ). byte t (startOf t slot + n)) e in
-          rw (← group-is, here) (flags-low slot below (byte t (startOf t slot + 5)) (small _) (facts .starts .reserved)))
+          rw (← group-is, here) (flags-low slot named (byte t (startOf t slot + 5)) (small _) (facts .starts .reserved)))
           (λ chap e.
           let here : byte bytes 0 ≡ byte t (startOf t slot + chapAt) = first-byte h ∙ ap (λ (n : ℕ). byte t (startOf t slot + n)) e in
           omega (arith, here, facts .chap chap))
@@ -346,7 +356,7 @@ module _ (t : List ℕ) (small : Small t) (f : ℕ) (bytes : List ℕ) (told : b
     string-back-bytes : isText ((fieldOf f) .notation) ≡ true → stringOf (fieldText f bytes) ≡ some bytes
     string-back-bytes text =
         let n = entryNumber f in
-        let shown = some-accepted (entryVerdict t n) _ bytes (entry-part t f group text n refl ∙ from) in
+        let shown = some-accepted (verdictOf t n) _ bytes (entry-part t f group told-group text n refl ∙ from) in
         let e : bytes ≡ part t (offsetOf t n) (sizeOf t n) = sym (same-bytes _ bytes (shown .1)) in
         ap stringOf (text-is ((groupOf (groupNumber f)) .flags) ((fieldOf f) .notation) bytes text)
         ∙ string-back bytes (λ i. omega (arith, ap (λ (l : List ℕ). byte l i) e, part-small t (offsetOf t n) (sizeOf t n) small i))
@@ -360,17 +370,6 @@ module _ (t : List ℕ) (small : Small t) (f : ℕ) (bytes : List ℕ) (told : b
               | yes l ↦ mode-stands (omega arith)
               | no l ↦ structure-stands (omega arith) plain
             ]
-      ]
-
-  -- its group is one of those that there are: past the last, a number stands for no string and for no structure
-  pub told-group : groupNumber f < groupCount
-  unfolding fieldOf
-  told-group =
-      elim (decLt (groupNumber f) groupCount) [
-        | yes h ↦ h
-        | no h ↦
-            let first = ap (λ (g : Group). isText ((fieldIn g (f % 16)) .notation)) (group-past (groupNumber f) (omega arith)) in
-            absurd (omega (arith, below (omega arith) (first ∙ low-plain 0 (f % 16) (omega arith))))
       ]
 
   pub told-said : isText ((fieldOf f) .notation) ≡ false → Said ((groupOf (groupNumber f)) .flags) ((fieldOf f) .notation) bytes

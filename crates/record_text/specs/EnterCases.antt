@@ -8,7 +8,7 @@ use lib.ListN.{length}
 use Rattle.octets.specs.Octets.{zeros, part}
 use Rattle.text.specs.Put.{ascii}
 use Rattle.text.specs.Split.{join}
-use Rattle.build_rules.specs.RecordRange.{rangeSize, imageAt}
+use Rattle.build_rules.specs.RecordRange.{baseSize, namedImage}
 use Rattle.record_text.specs.Enter.{noSuchField, givenBefore, unreadable, tooLong, noRoom, answerOf, enteredFrom}
 use Rattle.record_text.specs.Computing.{computing}
 use Rattle.record_text.specs.declared.enter.Entered.{Entered}
@@ -54,7 +54,7 @@ cases =
     ∷ reads 8 (text ("initiator.name 12345678" ∷ "target1.reverse-secret \"\"" ∷ []))
     ∷ []
 
-judged : map (λ (c : Case). answerOf (enteredFrom (c .text) (zeros rangeSize) (zeros 8))) cases ≡ map (λ (c : Case). c .answer) cases
+judged : map (λ (c : Case). answerOf (enteredFrom (c .text) (zeros baseSize) (zeros 8))) cases ≡ map (λ (c : Case). c .answer) cases
 unfolding computing text reads stops cases
 judged = refl
 
@@ -118,29 +118,29 @@ pieces =
     -- Control's flags; the marks of the structures, then of the strings
     ∷ piece 14 (1 ∷ 1 ∷ 1 ∷ 1 ∷ 0 ∷ 0 ∷ 1 ∷ 1 ∷ 1 ∷ 1 ∷ 1 ∷ 1 ∷ 1 ∷ zeros 6)
     -- the initiator: flags, no addresses, the name's length and start
-    ∷ piece (imageAt 0) (zeros 5 ++ (3 ∷ (zeros 64 ++ (28 ∷ 0 ∷ 0 ∷ 0 ∷ []))))
+    ∷ piece (namedImage 0) (zeros 5 ++ (3 ∷ (zeros 64 ++ (28 ∷ 0 ∷ 0 ∷ 0 ∷ []))))
     -- NIC 0: flags, address, prefix, origin, gateway, first DNS address
-    ∷ piece (imageAt 1 + 5) (7 ∷ (mapped (192 ∷ 168 ∷ 70 ∷ 50 ∷ []) ++ (24 ∷ 0 ∷ (mapped (192 ∷ 168 ∷ 70 ∷ 1 ∷ [])
+    ∷ piece (namedImage 1 + 5) (7 ∷ (mapped (192 ∷ 168 ∷ 70 ∷ 50 ∷ []) ++ (24 ∷ 0 ∷ (mapped (192 ∷ 168 ∷ 70 ∷ 1 ∷ [])
     ++ (0x20 ∷ 1 ∷ 0x0d ∷ 0xb8 ∷ (zeros 11 ++ (0x53 ∷ [])))))))
     -- MAC address, PCI address, the host name's length and start
-    ∷ piece (imageAt 1 + 90) (2 ∷ 0 ∷ 0x5e ∷ 0x10 ∷ 0 ∷ 7 ∷ 0x19 ∷ 0 ∷ 16 ∷ 0 ∷ 28 ∷ 0 ∷ [])
+    ∷ piece (namedImage 1 + 90) (2 ∷ 0 ∷ 0x5e ∷ 0x10 ∷ 0 ∷ 7 ∷ 0x19 ∷ 0 ∷ 16 ∷ 0 ∷ 28 ∷ 0 ∷ [])
     -- Target 0: flags, address, port, LUN, CHAP type, NIC; the strings
-    ∷ piece (imageAt 2 + 5) (3 ∷ (mapped (192 ∷ 168 ∷ 70 ∷ 35 ∷ []) ++ (0xbc ∷ 0x0c ∷ 1 ∷ (zeros 7 ++ (2 ∷ 0 ∷ [])))))
-    ∷ piece (imageAt 2 + 34) (26 ∷ 0 ∷ 44 ∷ 0 ∷ 6 ∷ 0 ∷ 70 ∷ 0 ∷ 25 ∷ 0 ∷ 76 ∷ 0 ∷ 1 ∷ 0 ∷ 101 ∷ 0 ∷ 0 ∷ 0 ∷ 102 ∷ 0 ∷ [])
+    ∷ piece (namedImage 2 + 5) (3 ∷ (mapped (192 ∷ 168 ∷ 70 ∷ 35 ∷ []) ++ (0xbc ∷ 0x0c ∷ 1 ∷ (zeros 7 ++ (2 ∷ 0 ∷ [])))))
+    ∷ piece (namedImage 2 + 34) (26 ∷ 0 ∷ 44 ∷ 0 ∷ 6 ∷ 0 ∷ 70 ∷ 0 ∷ 25 ∷ 0 ∷ 76 ∷ 0 ∷ 1 ∷ 0 ∷ 101 ∷ 0 ∷ 0 ∷ 0 ∷ 102 ∷ 0 ∷ [])
     -- what is not given: NIC 1 with flags `valid selected`, Target 1 with its port too
-    ∷ piece (imageAt 3) (zeros 5 ++ (3 ∷ zeros 96))
-    ∷ piece (imageAt 4) (zeros 5 ++ (3 ∷ (zeros 16 ++ (0xbc ∷ 0x0c ∷ zeros 30))))
+    ∷ piece (namedImage 3) (zeros 5 ++ (3 ∷ zeros 96))
+    ∷ piece (namedImage 4) (zeros 5 ++ (3 ∷ (zeros 16 ++ (0xbc ∷ 0x0c ∷ zeros 30))))
     ∷ []
 
-cabinet-answer : answerOf (enteredFrom cabinet (zeros rangeSize) (zeros 102)) ≡ record { reason = 0; line = 0; field = 0; used = 102 }
+cabinet-answer : answerOf (enteredFrom cabinet (zeros baseSize) (zeros 102)) ≡ record { reason = 0; line = 0; field = 0; used = 102 }
 unfolding computing text cabinet
 cabinet-answer = refl
 
-cabinet-strings : (enteredFrom cabinet (zeros rangeSize) (zeros 102)) .draft .strings ≡ strings
+cabinet-strings : (enteredFrom cabinet (zeros baseSize) (zeros 102)) .draft .strings ≡ strings
 unfolding computing text cabinet strings
 cabinet-strings = refl
 
-cabinet-range : map (λ (p : Piece). part ((enteredFrom cabinet (zeros rangeSize) (zeros 102)) .draft .range) (p .at) (length (p .bytes))) pieces
+cabinet-range : map (λ (p : Piece). part ((enteredFrom cabinet (zeros baseSize) (zeros 102)) .draft .range) (p .at) (length (p .bytes))) pieces
     ≡ map (λ (p : Piece). p .bytes) pieces
 unfolding computing text cabinet piece mapped pieces
 cabinet-range = refl

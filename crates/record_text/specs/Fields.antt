@@ -122,7 +122,7 @@ target =
       flags = ascii "valid selected radius-chap radius-rchap";
     }
 
--- the groups and their names; slot k's structure is group 2 + k
+-- the groups and their names; the structure of the named slot k is group 2 + k
 abbrev pub groups : List Group
 groups = oem ∷ control ∷ initiator ∷ nic ∷ target ∷ nic ∷ target ∷ []
 
@@ -152,6 +152,10 @@ fieldOf f = fieldIn (groupOf (groupNumber f)) (f % 16)
 unfoldable pub fieldCount : ℕ → ℕ
 fieldCount g = length ((groupOf g) .fields)
 
+-- whether there is a field n of group g
+abbrev pub isField : ℕ → ℕ → Bool
+isField g n = ltb g groupCount && ltb n (fieldCount g)
+
 -- the entry that string field f is: the strings of a structure are its last fields, and are numbered as they stand
 unfoldable pub entryOf : ℕ → ℕ
 entryOf f = firstEntry (groupNumber f - firstSlotGroup) + (f % 16 - (groupOf (groupNumber f)) .plain)
@@ -169,7 +173,7 @@ nameOf f = wordAt groupNames (groupNumber f) ++ dotted (wordAt ((groupOf (groupN
 -- the field that a name names: what stands before the first dot is the group, what stands behind it the field in the group; a name that
 -- ends in its first dot names none
 unfoldable pub found : ℕ → ℕ → Found
-found g n = cond (ltb g groupCount && ltb n (fieldCount g)) (Numbered (16 * g + n)) Nothing
+found g n = cond (isField g n) (Numbered (16 * g + n)) Nothing
 
 unfoldable pub fieldNamed : List ℕ → Found
 fieldNamed name =

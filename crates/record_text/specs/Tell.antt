@@ -5,14 +5,14 @@ use mathlib.Core.List.{List, [], _∷_, _++_}
 use mathlib.Core.Bool.{Bool, true, cond, not, _&&_, _||_}
 use mathlib.Core.Option.{Option, none, some, Option·map}
 use lib.ListN.{getD}
-use lib.Dec.{eqb, ltb}
+use lib.Dec.{eqb}
 use Rattle.octets.specs.Octets.{part, allZero}
 use Rattle.text.specs.Put.{ascii}
 use Rattle.ibft_table.specs.Record.{Record, recordOf}
 use Rattle.ibft_table.specs.Check.{checkOf}
 use Rattle.ibft_table.specs.declared.verdict.Verdict.{Verdict}
 use Rattle.ibft_table.specs.declared.verdict.Verdict.the-variants.{Accepted, Refused}
-use Rattle.record_text.specs.Fields.{groupNumber, firstSlotGroup, isText, fieldOf, fieldCount, nameOf, entryOf}
+use Rattle.record_text.specs.Fields.{groupNumber, firstSlotGroup, isText, fieldOf, isField, nameOf, entryOf}
 use Rattle.record_text.specs.Value.{fieldText}
 use Rattle.record_text.specs.declared.fields.Field.{Field as FieldLayout}
 
@@ -34,9 +34,9 @@ recordField r f =
     cond (eqb (groupNumber f) 0) (some (cond (eqb (f % 16) 1) (r .oemTableId) (r .oemId)))
     (cond (eqb (groupNumber f) 1) (some (r .flags ∷ [])) (structureField r f))
 
--- a number past the last field of its group is no field
+-- a number past the last group, or past the last field of its group, is no field
 unfoldable pub bytesIn : Record → ℕ → Option (List ℕ)
-bytesIn r f = cond (ltb (f % 16) (fieldCount (groupNumber f))) (recordField r f) none
+bytesIn r f = cond (isField (groupNumber f) (f % 16)) (recordField r f) none
 
 -- .. in a table; `none` where the check refuses it
 unfoldable pub ifAccepted : Verdict → Option (List ℕ) → Option (List ℕ)

@@ -45,6 +45,10 @@ nic =
     ++ (0x20 ∷ 1 ∷ 0x0D ∷ 0xB8 ∷ (zeros 11 ++ (0x53 ∷ (zeros 32
     ++ (le16 70 ++ (2 ∷ 0 ∷ 0x5E ∷ 0x10 ∷ 0 ∷ 7 ∷ (le16 0x19 ++ zeros 4))))))))))))
 
+-- the same with a target of Index 2 at 176, in an extra word
+extra : List ℕ
+extra = changed 4 (230 ∷ []) (write (write nic 50 (20 ∷ [])) 66 (le16 176) ++ (0 ∷ 0 ∷ 4 ∷ 1 ∷ 54 ∷ 0 ∷ 2 ∷ 1 ∷ zeros 48))
+
 -- case 5 with two secrets: the CHAP secret `t7`, and an empty reverse secret
 secrets : List ℕ
 secrets = changed 114 (2 ∷ 0 ∷ 130 ∷ 0 ∷ []) (changed 122 (0 ∷ 0 ∷ 132 ∷ 0 ∷ []) case5)
@@ -72,6 +76,10 @@ cases =
     ∷ tells nic
     ("control multi" ∷ "nic0.flags valid selected global" ∷ "nic0.prefix 24" ∷ "nic0.dns1 2001:db8::53" ∷ "nic0.vlan 70" ∷ "nic0.mac 02:00:5e:10:00:07"
     ∷ "nic0.pci 00:03.1" ∷ [])
+    -- of an extra target nothing is told
+    ∷ tells extra
+    ("control multi" ∷ "nic0.flags valid selected global" ∷ "nic0.prefix 24" ∷ "nic0.dns1 2001:db8::53" ∷ "nic0.vlan 70" ∷ "nic0.mac 02:00:5e:10:00:07"
+    ∷ "nic0.pci 00:03.1" ∷ [])
     -- the same structure as Target 1
     ∷ tells (changed 60 (0 ∷ 0 ∷ 0 ∷ 0 ∷ 72 ∷ 0 ∷ []) (changed 76 (1 ∷ []) case5))
     ("control multi" ∷ "target1.flags valid" ∷ "target1.port 0" ∷ "target1.chap-name depot7" ∷ "target1.reverse-name 7" ∷ [])
@@ -89,7 +97,7 @@ ended [] = []
 ended (l ∷ ls) = l ++ (10 ∷ ended ls)
 
 all-told : map (λ (c : Case). told (c .table)) cases ≡ map (λ (c : Case). ended (c .text)) cases
-unfolding of-tables of-text digitByte digitsWithin digits padded byteText textAt stringText zeroRun longest groupsText fourText sixText isMapped addressText macText pciText isText groupOf fieldIn fieldOf fieldCount entryOf nameOf valueText structureField recordField bytesIn ifAccepted bytesOf isTold lineWith lineOf tellLine told case5 changed nic secrets tells cases ended
+unfolding of-tables of-text digitByte digitsWithin digits padded byteText textAt stringText zeroRun longest groupsText fourText sixText isMapped addressText macText pciText isText groupOf fieldIn fieldOf fieldCount entryOf nameOf valueText structureField recordField bytesIn ifAccepted bytesOf isTold lineWith lineOf tellLine told case5 changed nic extra secrets tells cases ended
 all-told = refl
 
 -- with secrets hidden a comment stands in place of each; a table without any is told as ever

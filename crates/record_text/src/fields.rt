@@ -1,5 +1,5 @@
-// The fields of a record by number. The groups `oem` and `control` are numbered 0 and 1, slot k's structure is group 2 + k. Field n of
-// group g has the number 16 g + n.
+// The fields of a record by number. The groups `oem` and `control` are numbered 0 and 1, the structure of the named slot k is group
+// 2 + k. Field n of group g has the number 16 g + n.
 use octets::read::part;
 use text::put::put_char;
 use text::put::put_text;
@@ -224,11 +224,11 @@ fn plain_count(g: u8) -> u8
     }
 }
 
-// The number of the first entry of group g's structure. (Past the last group the layout has initiators, of one string each; the groups
-// before the structures have no strings.)
+// The number of the first entry of group g's structure. (Past the last group the layout has six NICs, of one string each, then targets;
+// the groups before the structures have no strings.)
 fn first_entry(g: u8) -> u8
     requires { ⌜ g < 16 ⌝ }
-    ensures { λ r. ⌜ (r ≡ firstEntry (g - 2)) × (r ≤ g + 6) ⌝ }
+    ensures { λ r. ⌜ (r ≡ firstEntry (g - 2)) × (r ≤ 29) ⌝ }
 {
     if g < 3 {
         return 0;
@@ -238,6 +238,8 @@ fn first_entry(g: u8) -> u8
         4 => 2,
         5 => 7,
         6 => 8,
+        14 => 24,
+        15 => 29,
         _ => g + 6,
     }
 }

@@ -101,7 +101,7 @@ fn put_header_line(room: &mut [u8], hide: bool, t: &[u8], f: u8) -> usize
 
 // Puts the line of a string, of which the table shows a view.
 fn put_string_line(room: &mut [u8], hide: bool, t: &[u8], f: u8) -> usize
-    requires { ⌜ (2 ≤ groupNumber f) × (isText ((fieldOf f) .notation) ≡ true) ⌝ }
+    requires { ⌜ (2 ≤ groupNumber f) × (groupNumber f < 7) × (isText ((fieldOf f) .notation) ≡ true) ⌝ }
     ensures { λ r. ⌜ Puts (now (room .entry)) (now (room .exit)) 0 r (shownLine hide f (fieldFrom (now (t .entry)) f)) ⌝ }
 {
     let n = entry_of(f);
@@ -114,7 +114,7 @@ fn put_string_line(room: &mut [u8], hide: bool, t: &[u8], f: u8) -> usize
 
 // Puts the line of another field of a structure, from the part of the table that starts at the structure.
 fn put_structure_line(room: &mut [u8], hide: bool, t: &[u8], f: u8) -> usize
-    requires { ⌜ (2 ≤ groupNumber f) × (isText ((fieldOf f) .notation) ≡ false) ⌝ }
+    requires { ⌜ (2 ≤ groupNumber f) × (groupNumber f < 7) × (isText ((fieldOf f) .notation) ≡ false) ⌝ }
     ensures { λ r. ⌜ Puts (now (room .entry)) (now (room .exit)) 0 r (shownLine hide f (fieldFrom (now (t .entry)) f)) ⌝ }
 {
     let slot = f / 16 - 2;
@@ -136,6 +136,9 @@ fn put_structure_line(room: &mut [u8], hide: bool, t: &[u8], f: u8) -> usize
 fn put_shown(room: &mut [u8], hide: bool, t: &[u8], f: u8) -> usize
     ensures { λ r. ⌜ Puts (now (room .entry)) (now (room .exit)) 0 r (shownLine hide f (bytesOf (now (t .entry)) f)) ⌝ }
 {
+    if 7 <= f / 16 {
+        return 0;
+    }
     if field_count(f / 16) <= f % 16 {
         return 0;
     }

@@ -1,17 +1,25 @@
-// The bench program: reads a table, up to 4,096 bytes of standard input, and prints what it says where the check accepts it, or
+// The bench program: reads a table, up to 16,384 bytes of standard input, and prints what it says where the check accepts it, or
 // the one refusal that applies. Numbers are decimal.
 use ibft_table::check::check;
 use ibft_table::control::Control;
 use ibft_table::entry::read_entry;
 use ibft_table::header::read_header;
+use ibft_table::initiator::Initiator;
+use ibft_table::layout::ENTRY_COUNT;
+use ibft_table::layout::SLOT_COUNT;
 use ibft_table::login::LoginOrder;
 use ibft_table::login::login_order;
+use ibft_table::nic::Nic;
 use ibft_table::structure::read_structure;
 use ibft_table::verdict::Verdict;
+use octets::read::byte_at;
 use octets::read::part;
 use octets::read::u32_at;
 
 const STDOUT: i32 = 1;
+
+// The longest table that a build makes has 13,710 bytes.
+const LONGEST_INPUT: usize = 16384;
 
 fn print(text: &[u8]) {
     io::write_all(STDOUT, text);
@@ -25,14 +33,18 @@ fn print_byte(b: u8) {
     print_number(b as u64);
 }
 
-fn print_slot(slot: u8) {
-    match slot {
-        0 => print(b"initiator "),
-        1 => print(b"nic0 "),
-        2 => print(b"target0 "),
-        3 => print(b"nic1 "),
-        _ => print(b"target1 "),
+// A structure's name: its kind, and the Index of a NIC or a target.
+fn print_name(id: u8, index: u8) {
+    if id == Initiator::ID {
+        print(b"initiator");
+        return;
     }
+    if id == Nic::ID {
+        print(b"nic");
+    } else {
+        print(b"target");
+    }
+    print_byte(index);
 }
 
 // A structure's line, with its start and flags, where it is present.
@@ -41,7 +53,8 @@ fn show_structure(t: &[u8], slot: u8) {
     if structure.refusal.number != 0 {
         return;
     }
-    print_slot(slot);
+    print_name(structure.id, structure.index);
+    print(b" ");
     print_number(structure.start as u64);
     print(b" ");
     print_number(structure.flags as u64);
@@ -49,7 +62,7 @@ fn show_structure(t: &[u8], slot: u8) {
 }
 
 fn show_structures(t: &[u8]) {
-    for slot in 0..5u8 {
+    for slot in 0..SLOT_COUNT {
         show_structure(t, slot);
     }
 }
@@ -70,8 +83,20 @@ fn show_entry(t: &[u8], n: u8) {
 }
 
 fn show_entries(t: &[u8]) {
-    for n in 0..13u8 {
+    for n in 0..ENTRY_COUNT {
         show_entry(t, n);
+    }
+}
+
+fn show_place(index: u8) {
+    print(b" ");
+    print_byte(index);
+}
+
+// The Indexes of the targets to log in to, in their order.
+fn show_places(places: &[u8], used: u8) {
+    for i in 0..used {
+        show_place(byte_at(places, i as usize));
     }
 }
 
@@ -81,14 +106,7 @@ fn show_order(order: LoginOrder) {
     if order.used == 0 {
         print(b" none");
     }
-    if 0 < order.used {
-        print(b" ");
-        print_byte(places[0]);
-    }
-    if 1 < order.used {
-        print(b" ");
-        print_byte(places[1]);
-    }
+    show_places(&places, order.used);
     print(b"\n");
 }
 
@@ -127,7 +145,7 @@ fn show(t: &[u8]) {
 }
 
 fn main() {
-    let mut input = io::buffer();
+    let mut input = [0u8; LONGEST_INPUT];
     let n = io::read_full(0, &mut input);
     show(part(&input, 0, n));
 }

@@ -4,3 +4,4 @@ pub mod SameLaws
 pub mod StoredLaws
 pub mod HostLaws
 pub mod StartsLaws
+pub mod CutLaws

@@ -16,7 +16,7 @@ packedRefusal r = r .number + 2 ^ 8 * (r .place % 2 ^ 24)
 abbrev pub packedStructure : StructureReading → ℕ
 packedStructure r = packedRefusal (r .refusal) + 2 ^ 32 * r .id + 2 ^ 40 * r .start + 2 ^ 56 * r .flags
 
--- how many places are used, and the two places, from bits 32, 40 and 48 on
+-- how many places are used, and the first two of them, from bits 32, 40 and 48 on
 abbrev pub packedOrder : LoginOrder → ℕ
 packedOrder r = packedRefusal (r .refusal) + 2 ^ 32 * r .used + 2 ^ 40 * byte (r .places) 0 + 2 ^ 48 * byte (r .places) 1
 

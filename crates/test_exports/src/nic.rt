@@ -61,3 +61,11 @@ pub extern "C" fn test_nic(t: &[u8], which: u8, out: &mut [u8]) -> u64
     put_nic(out, read.fields);
     packed_refusal(read.refusal)
 }
+
+// The Index that the same reading answers.
+#[no_mangle]
+pub extern "C" fn test_nic_index(t: &[u8], which: u8) -> u8
+    ensures { λ r. ⌜ r ≡ (nicOf (now (t .entry)) which) .index ⌝ }
+{
+    read_nic(t, which).index
+}

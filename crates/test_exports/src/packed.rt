@@ -8,9 +8,10 @@ use ibft_table::structure::read_structure;
 use ibft_table::verdict::Refusal;
 use octets::read::byte_at;
 use octets::read::sixteen_at;
+use octets::read::u64_at;
 ghost use mathlib.Core.Path.{_≡_};
 ghost use Prim.Native.Nat.{_<_, _^_};
-ghost use Rattle.octets.specs.Octets.{bytesAt};
+ghost use Rattle.octets.specs.Octets.{word64, bytesAt};
 ghost use Rattle.ibft_table.specs.Readings.{structureOf, entryOf, addressKindOf, addressNumber, pciOf};
 ghost use Rattle.ibft_table.specs.Login.{loginOrderOf};
 ghost use Rattle.test_exports.specs.Packed.{packedRefusal, packedStructure, packedOrder, packedEntryPlace, packedPci};
@@ -31,6 +32,14 @@ pub extern "C" fn test_structure(t: &[u8], slot: u8) -> u64
         + 4294967296 * read.id as u64
         + 1099511627776 * read.start as u64
         + 72057594037927936 * read.flags as u64
+}
+
+// The Index that the same reading answers.
+#[no_mangle]
+pub extern "C" fn test_structure_index(t: &[u8], slot: u8) -> u8
+    ensures { λ r. ⌜ r ≡ (structureOf (now (t .entry)) slot) .index ⌝ }
+{
+    read_structure(t, slot).index
 }
 
 #[no_mangle]
@@ -58,6 +67,16 @@ pub extern "C" fn test_login_order(t: &[u8]) -> u64
         + 4294967296 * order.used as u64
         + 1099511627776 * byte_at(&places[..], 0) as u64
         + 281474976710656 * byte_at(&places[..], 1) as u64
+}
+
+// All eight places of the order, the first in the lowest byte.
+#[no_mangle]
+pub extern "C" fn test_login_places(t: &[u8]) -> u64
+    ensures { λ r. ⌜ r ≡ word64 ((loginOrderOf (now (t .entry))) .places) 0 ⌝ }
+{
+    let order = login_order(t);
+    let places = order.places;
+    u64_at(&places[..], 0)
 }
 
 // The kind of the address that the first sixteen bytes are.

@@ -55,3 +55,11 @@ pub extern "C" fn test_target(t: &[u8], which: u8, out: &mut [u8]) -> u64
     put_target(out, read.fields);
     packed_refusal(read.refusal)
 }
+
+// The Index that the same reading answers.
+#[no_mangle]
+pub extern "C" fn test_target_index(t: &[u8], which: u8) -> u8
+    ensures { λ r. ⌜ r ≡ (targetOf (now (t .entry)) which) .index ⌝ }
+{
+    read_target(t, which).index
+}

@@ -7,10 +7,10 @@ use Rattle.bench_cases.proofs.lay_entries.Statement.{statement}
 use Rattle.bench_cases.proofs.lay_entries.Tie as tie
 
 abbrev Inv-loop : tie.InvT-loop
-Inv-loop range₀ strings₀ n₀ range strings n = (n ≤ 13) × (length range ≡ length range₀) × (length strings ≡ length strings₀)
+Inv-loop range₀ strings₀ count n₀ range strings n = (n ≤ count) × (length range ≡ length range₀) × (length strings ≡ length strings₀)
 
 abbrev μ-loop : tie.MeasureT-loop
-μ-loop range₀ strings₀ n₀ range strings n = 13 - n
+μ-loop range₀ strings₀ count n₀ range strings n = count - n
 
 pub lay-entries-spec : {M : Type 1} → statement M
 lay-entries-spec = tie.close (tie.spec Inv-loop μ-loop (search needs) (search needs) (search needs) (search needs) (search needs) (search needs) (search needs) (search needs))

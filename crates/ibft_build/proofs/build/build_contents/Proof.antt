@@ -2,8 +2,6 @@
 -- room takes it or it does not. Assumes nothing.
 use mathlib.Core.Path.{_≡_, ap}
 use native.Mathlib.Omega.{arith}
-use Prim.Native.Nat.{ℕ, _≤_}
-use lib.ListN.{length}
 use Rattle.build_rules.specs.RecordRange.{contentGiven}
 use Rattle.build_rules.specs.Plan.{lengthBuilt}
 use Rattle.ibft_build.specs.Planning.{planOf}

@@ -1,5 +1,5 @@
 -- `entry_given` meets its contract: the structure is absent, or the mark decides. Assumes nothing.
-use mathlib.Core.Path.{sym, ap, _∙_}
+use mathlib.Core.Path.{sym, _∙_}
 use Rattle.ibft_build.proofs.RecordLaws.{entry-marked, entry-off}
 use borrow.Author.Needs.{needs}
 use Rattle.ibft_build.proofs.record.entry_given.Statement.{statement}
@@ -7,8 +7,9 @@ use Rattle.ibft_build.proofs.record.entry_given.Tie as tie
 
 returns : tie.Need-returns
 returns c =
-    let owner = c .before .before .before .owner-of .ensures in
-    entry-marked _ _ _ owner (sym (c .before .before .structure-given .ensures) ∙ c .before .if1 .taken) _ (c .byte-at .ensures)
+    let owner = c .before .before .before .before .owner-of .ensures in
+    let on = sym (c .before .before .before .structure-given .ensures) ∙ c .before .before .if1 .taken in
+    entry-marked _ _ _ owner on _ _ (c .before .mark-at .ensures) (c .byte-at .ensures)
 
 returns-2 : tie.Need-returns-2
 returns-2 c =

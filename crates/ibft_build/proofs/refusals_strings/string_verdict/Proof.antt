@@ -65,15 +65,15 @@ returns c = sym (rw (sym (c .before .entry-given .ensures) ∙ not-true _ (c .if
 
 returns-2 : tie.Need-returns-2
 unfolding firstOf stringTests
-returns-2 c = c .refuse .ensures ∙ sym (rw (given (c .before .before .before .before), ← c .before .before .before .entry-start .ensures, ← c .before .before .entry-length .ensures, lt-ltb _ _ (c .before .if2 .taken)))
+returns-2 c = rw (c .before .entry-number .ensures) at (c .refuse .ensures) ∙ sym (rw (given (c .before .before .before .before .before), ← c .before .before .before .before .entry-start .ensures, ← c .before .before .before .entry-length .ensures, lt-ltb _ _ (c .before .before .if2 .taken)))
 
 returns-3 : tie.Need-returns-3
 unfolding firstOf stringTests
-returns-3 c = c .refuse2 .ensures ∙ sym (pass1 (c .before .before .before .before) ∙ rw (given (c .before .before .before .before .before .before .before), ← longest-is (c .before .before .before), ← c .before .before .before .before .before .entry-length .ensures, lt-ltb _ _ (c .before .if3 .taken)))
+returns-3 c = rw (c .before .entry-number2 .ensures) at (c .refuse2 .ensures) ∙ sym (pass1 (c .before .before .before .before .before) ∙ rw (given (c .before .before .before .before .before .before .before .before), ← longest-is (c .before .before .before .before), ← c .before .before .before .before .before .before .entry-length .ensures, lt-ltb _ _ (c .before .before .if3 .taken)))
 
 returns-4 : tie.Need-returns-4
 unfolding firstOf stringTests
-returns-4 c = c .refuse3 .ensures ∙ sym (pass2 (c .before .before .before .before) ∙ rw (given (c .before .before .before .before .before .before .before .before .before .before), sym (zero-is (c .before .before)) ∙ c .before .if4 .taken))
+returns-4 c = rw (c .before .entry-number3 .ensures) at (c .refuse3 .ensures) ∙ sym (pass2 (c .before .before .before .before .before) ∙ rw (given (c .before .before .before .before .before .before .before .before .before .before .before), sym (zero-is (c .before .before .before)) ∙ c .before .before .if4 .taken))
 
 returns-5 : tie.Need-returns-5
 unfolding firstOf stringTests
@@ -82,12 +82,12 @@ returns-5 c = sym (pass3 (c .before .before) ∙ rw (given (c .before .before .b
 returns-6 : tie.Need-returns-6
 unfolding firstOf stringTests
 returns-6 c =
-    c .refuse4 .ensures
-    ∙ sym (pass3 (c .before .before .before .before .before) ∙ rw (given (c .before .before .before .before .before .before .before .before .before .before .before .before .before .before), sym (host-is (c .before .before .before .before .before .before .before .before .before .before)) ∙ not-false _ (c .before .before .before .if5 .left), sym (name-is (c .before .before)) ∙ not-true _ (c .before .if6 .taken)))
+    rw (c .before .entry-number4 .ensures) at (c .refuse4 .ensures)
+    ∙ sym (pass3 (c .before .before .before .before .before .before) ∙ rw (given (c .before .before .before .before .before .before .before .before .before .before .before .before .before .before .before), sym (host-is (c .before .before .before .before .before .before .before .before .before .before .before)) ∙ not-false _ (c .before .before .before .before .if5 .left), sym (name-is (c .before .before .before)) ∙ not-true _ (c .before .before .if6 .taken)))
 
 returns-7 : tie.Need-returns-7
 unfolding firstOf stringTests
 returns-7 c = sym (pass3 (c .before .before .before .before) ∙ rw (given (c .before .before .before .before .before .before .before .before .before .before .before .before .before), sym (host-is (c .before .before .before .before .before .before .before .before .before)) ∙ not-false _ (c .before .before .if5 .left), sym (name-is (c .before)) ∙ not-false _ (c .if6 .left)))
 
 pub string-verdict-spec : {M : Type 1} → statement M
-string-verdict-spec = tie.close (tie.spec (search needs) returns (search needs) (search needs) (search needs) (search needs) (search needs) (search needs) returns-2 (search needs) (search needs) (search needs) returns-3 (search needs) (search needs) (search needs) returns-4 returns-5 (search needs) (search needs) returns-6 returns-7)
+string-verdict-spec = tie.close (tie.spec (search needs) returns (search needs) (search needs) (search needs) (search needs) (search needs) (search needs) (search needs) (search needs) returns-2 (search needs) (search needs) (search needs) (search needs) (search needs) returns-3 (search needs) (search needs) (search needs) (search needs) (search needs) returns-4 returns-5 (search needs) (search needs) (search needs) (search needs) returns-6 returns-7)

@@ -1,25 +1,24 @@
 -- `structure_start` meets its contract: a present structure starts at the next multiple of 8 behind those of earlier turns. Assumes nothing.
 use mathlib.Core.Path.{sym, _∙_}
-use Prim.Native.Nat.{_≤_}
 use native.Mathlib.Omega.{arith}
-use Rattle.ibft_build.proofs.StartLaws.{turn-le, ends-at, ends-count, ends-bound, start-on, start-off}
+use Rattle.ibft_build.proofs.StartLaws.{ends-at, ends-count, ends-bound, start-on, start-off}
 use borrow.Author.Needs.{needs}
 use Rattle.ibft_build.proofs.starts.structure_start.Statement.{statement}
 use Rattle.ibft_build.proofs.starts.structure_start.Tie as tie
 
 shared-slice-read-aligned : tie.Need-shared-slice-read-aligned
-shared-slice-read-aligned c = omega (arith, turn-le (c .before .before .before .before .before .before .args .k), ends-count _ _ (c .before .before .before .before .before .before .pre))
+shared-slice-read-aligned c =
+    omega (arith, c .before .turn-of .ensures .1, ends-count _ _ (c .before .before .before .before .before .before .pre))
 
 aligned-requires : tie.Need-aligned-requires
 aligned-requires c κs =
-    let below : c .before .turn-of .result ≤ 5 = omega (arith, turn-le (c .before .before .before .before .before .before .args .k)) in
-    omega (arith, ends-bound _ _ (c .before .before .before .before .before .before .pre) (c .before .turn-of .result) below)
+    omega (arith, ends-bound _ _ (c .before .before .before .before .before .before .pre) (c .before .turn-of .result) (c .before .turn-of .ensures .1))
 
 returns : tie.Need-returns
 returns c =
-    let below : c .before .before .turn-of .result ≤ 5 = omega (arith, turn-le (c .before .before .before .before .before .before .before .args .k)) in
-    start-on _ _ (sym (c .before .before .before .before .structure-given .ensures) ∙ c .before .before .before .if1 .taken) _ _ (c .before .before .turn-of .ensures)
-    (ends-at _ _ (c .before .before .before .before .before .before .before .pre) _ below) _ (c .aligned .ensures)
+    let turn = c .before .before .turn-of .ensures in
+    start-on _ _ (sym (c .before .before .before .before .structure-given .ensures) ∙ c .before .before .before .if1 .taken) _ _ (turn .0)
+    (ends-at _ _ (c .before .before .before .before .before .before .before .pre) _ (turn .1)) _ (c .aligned .ensures)
 
 returns-2 : tie.Need-returns-2
 returns-2 c = start-off _ _ (sym (c .before .structure-given .ensures) ∙ c .if1 .left)

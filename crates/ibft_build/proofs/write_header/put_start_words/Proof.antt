@@ -14,21 +14,22 @@ use Rattle.ibft_build.proofs.write_header.put_start_words.Statement.{st
 use Rattle.ibft_build.proofs.write_header.put_start_words.Tie as tie
 
 abbrev Inv-loop : tie.InvT-loop
-Inv-loop control₀ range ends k₀ control k = (k ≤ 5) × (length control ≡ length control₀) × (control ≡ write control₀ 8 (gather (startWord range) 0 k))
+Inv-loop control₀ at range ends first count i₀ control i =
+    (i ≤ count) × (length control ≡ length control₀) × (control ≡ write control₀ at (gather (startWord range) first i))
 
 abbrev μ-loop : tie.MeasureT-loop
-μ-loop control₀ range ends k₀ control k = 5 - k
+μ-loop control₀ at range ends first count i₀ control i = count - i
 
 loop-holds : tie.Need-loop-holds Inv-loop μ-loop
 loop-holds c = (search needs, refl, gather-none _ _ _ _)
 
 structure-start-requires : tie.Need-structure-start-requires Inv-loop μ-loop
-structure-start-requires c κs = c .before .before .before .before .before .before .pre
+structure-start-requires c κs = c .before .before .before .before .before .before .pre .1
 
 loop-again : tie.Need-loop-again Inv-loop μ-loop
 loop-again c =
     let l = c .before .before .before .before .before .before .loop in
-    let next = start-words-next _ _ _ _ (l .k) _ (l .inv .2) (c .before .before .before .structure-start .ensures) (c .before .before .put-u16 .ensures) in
+    let next = start-words-next _ _ _ _ _ _ (l .i) _ (l .inv .2) (c .before .before .before .structure-start .ensures) (c .before .before .put-u16 .ensures) in
     (omega arith, length-written _ _ _ _ next, next)
 
 same-length : tie.Need-same-length Inv-loop μ-loop
@@ -37,7 +38,7 @@ same-length c = c .before .loop .inv .1
 returns : tie.Need-returns Inv-loop μ-loop
 returns c =
     let l = c .before .loop in
-    gather-done _ _ _ _ (l .k) 5 _ (l .inv .2) (omega arith)
+    gather-done _ _ _ _ (l .i) _ _ (l .inv .2) (omega arith)
 
 pub put-start-words-spec : {M : Type 1} → statement M
-put-start-words-spec = tie.close (tie.spec Inv-loop μ-loop loop-holds (search needs) (search needs) (search needs) structure-start-requires (search needs) (search needs) (search needs) loop-again same-length returns)
+put-start-words-spec = tie.close (tie.spec Inv-loop μ-loop loop-holds (search needs) (search needs) (search needs) (search needs) structure-start-requires (search needs) (search needs) (search needs) loop-again same-length returns)

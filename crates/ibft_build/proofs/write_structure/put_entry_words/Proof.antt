@@ -8,4 +8,4 @@ returns : tie.Need-returns
 returns c = entry-words _ _ _ _ _ _ _ _ (c .before .before .before .before .before .before .before .before .length-word .ensures) (c .before .before .before .before .before .before .before .put-u16 .ensures) (c .before .before .put-u162 .ensures)
 
 pub put-entry-words-spec : {M : Type 1} → statement M
-put-entry-words-spec = tie.close (tie.spec (search needs) (search needs) (search needs) (search needs) (search needs) (search needs) (search needs) returns)
+put-entry-words-spec = tie.close (tie.spec (search needs) (search needs) (search needs) (search needs) (search needs) (search needs) (search needs) (search needs) (search needs) returns)

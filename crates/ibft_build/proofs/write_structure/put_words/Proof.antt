@@ -7,18 +7,18 @@ use Rattle.octets.specs.Counting.{gather}
 use Rattle.octets.specs.Octets.{write}
 use Rattle.octets.proofs.WriteLaws.{length-written}
 use Rattle.ibft_build.specs.Writing.{wordsWith}
-use Rattle.ibft_build.proofs.StructureLaws.{slot-fits, first-next, words-none, words-next, words-done}
+use Rattle.ibft_build.proofs.StructureLaws.{entries-below, first-next, words-none, words-next, words-done}
 use borrow.Author.Needs.{needs}
 use Rattle.ibft_build.proofs.write_structure.put_words.Statement.{statement}
 use Rattle.ibft_build.proofs.write_structure.put_words.Tie as tie
 
 abbrev Inv-loop : tie.InvT-loop
-Inv-loop structure₀ at range offsets k first end n₀ structure n =
+Inv-loop structure₀ at wanted offsets k first end n₀ structure n =
     (first ≤ n) × (n ≤ end) × (length structure ≡ length structure₀)
-    × (structure ≡ write structure₀ at (gather (wordsWith range offsets) first (n - first)))
+    × (structure ≡ write structure₀ at (gather (wordsWith wanted offsets) first (n - first)))
 
 abbrev μ-loop : tie.MeasureT-loop
-μ-loop structure₀ at range offsets k first end n₀ structure n = end - n
+μ-loop structure₀ at wanted offsets k first end n₀ structure n = end - n
 
 loop-holds : tie.Need-loop-holds Inv-loop μ-loop
 loop-holds c = (search needs, omega (arith, first-next (c .before .before .before .before .before .args .k)), refl, words-none _ _ _ _ _)
@@ -26,9 +26,9 @@ loop-holds c = (search needs, omega (arith, first-next (c .before .before .befor
 put-entry-words-requires : tie.Need-put-entry-words-requires Inv-loop μ-loop
 put-entry-words-requires c κs =
     let p = c .before .before .before .before .before .before .before .before .pre in
-    let entries = slot-fits _ (p .2) .entries in
+    let entries = entries-below _ (p .3) in
     let next = first-next (c .before .before .before .before .before .before .before .before .args .k) in
-    (omega arith, omega arith)
+    (omega arith, omega arith, p .1, p .2)
 
 loop-again : tie.Need-loop-again Inv-loop μ-loop
 loop-again c =
@@ -42,7 +42,7 @@ same-length c = c .before .loop .inv .2
 returns : tie.Need-returns Inv-loop μ-loop
 returns c =
     let l = c .before .loop in
-    words-done _ _ _ _ _ _ _ _ _ (c .before .before .before .first-entry .ensures) (c .before .before .first-entry2 .ensures) (omega arith) (l .inv .3)
+    words-done _ _ _ _ _ _ _ _ _ (c .before .before .before .first-entry .ensures .0) (c .before .before .first-entry2 .ensures .0) (omega arith) (l .inv .3)
 
 pub put-words-spec : {M : Type 1} → statement M
 put-words-spec = tie.close (tie.spec Inv-loop μ-loop (search needs) (search needs) (search needs) loop-holds (search needs) (search needs) (search needs) (search needs) put-entry-words-requires (search needs) (search needs) loop-again same-length returns)

@@ -18,7 +18,7 @@ returns c =
     let p = c .before .before .before .before .before .before .before .before .before .before .before .before .pre in
     let plan = planned _ _ _ (p .1) in
     let size = plan .length-are in
-    table-is _ _ _ _ _ (bare-length _ _ (p .0) _ _ (plan .ends-are) (plan .offsets-are)) (omega arith) (p .2) size (c .before .before .before .before .before .before .put-bare .ensures) (c .before .before .put-checksum .ensures)
+    table-is _ _ _ _ _ (bare-length _ _ (p .0) _ _ _ (plan .ends-are) (plan .wanted-are) (plan .offsets-are)) (omega arith) (p .2) size (c .before .before .before .before .before .before .put-bare .ensures) (c .before .before .put-checksum .ensures)
 
 pub put-table-spec : {M : Type 1} → statement M
 put-table-spec = tie.close (tie.spec (search needs) (λ c κs. search needs) put-checksum-requires (search needs) returns)

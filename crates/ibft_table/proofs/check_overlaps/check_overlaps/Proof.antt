@@ -1,40 +1,35 @@
--- `check_overlaps` meets its contract: slot by slot, the verdict of the slots from k on is that of all. Assumes nothing.
-use mathlib.Core.Path.{_≡_, refl, sym, _∙_}
-use Prim.Native.Nat.{_-_, _≤_}
+-- `check_overlaps` meets its contract: the named words, then the extra ones. Assumes nothing.
+use mathlib.Core.Path.{ap, _∙_}
 use native.Mathlib.Omega.{arith}
+use Prim.Native.Nat.{ℕ, _-_}
 use Rattle.octets.specs.Counting.{gather}
-use Rattle.ibft_table.specs.Layout.{slotCount}
+use Rattle.ibft_table.specs.Layout.{namedCount}
+use Rattle.ibft_table.specs.Table.{wordCount}
 use Rattle.ibft_table.specs.Verdict.{firstOf}
 use Rattle.ibft_table.specs.Check.{overlapTests}
-use Rattle.ibft_table.specs.declared.verdict.Verdict.the-variants.{Accepted}
-use Rattle.ibft_table.proofs.VerdictLaws.{gather-stop, gather-go, gather-end}
+use Rattle.ibft_table.proofs.VerdictLaws.{split-stop, split-go}
+use Rattle.ibft_table.proofs.SeatLaws.{words-named}
 use borrow.Author.Needs.{needs}
 use Rattle.ibft_table.proofs.check_overlaps.check_overlaps.Statement.{statement}
 use Rattle.ibft_table.proofs.check_overlaps.check_overlaps.Tie as tie
 
-abbrev Inv-loop : tie.InvT-loop
-Inv-loop t k₀ k = (k ≤ slotCount) × (firstOf (gather (overlapTests t) k (slotCount - k)) ≡ firstOf (gather (overlapTests t) 0 slotCount))
-
-abbrev μ-loop : tie.MeasureT-loop
-μ-loop t k₀ k = slotCount - k
-
-returns : tie.Need-returns Inv-loop μ-loop
-unfolding overlapTests firstOf
+returns : tie.Need-returns
 returns c =
-    let r = rw (c .before .word-at .ensures) at (c .refuse .ensures) in
-    let fails = sym (c .before .before .before .overlaps-earlier .ensures) ∙ c .before .before .if1 .taken in
-    gather-stop (overlapTests (c .before .before .before .before .before .before .before .args .t .now)) slotCount (c .before .before .before .before .before .loop .k) (omega arith) _ (r ∙ sym (rw fails)) _ r ∙ c .before .before .before .before .before .loop .inv .1
+    let t = c .before .before .before .before .args .t .now in
+    split-stop (overlapTests t) namedCount (wordCount t) (words-named t) _ (c .before .before .check-named-overlaps .ensures) _ (c .enum-told .given .1)
 
-loop-again : tie.Need-loop-again Inv-loop μ-loop
-unfolding overlapTests firstOf
-loop-again c =
-    let passes = sym (c .before .overlaps-earlier .ensures) ∙ c .if1 .left in (
-      search needs,
-      gather-go (overlapTests (c .before .before .before .before .before .args .t .now)) slotCount (c .before .before .before .loop .k) (omega arith) Accepted (sym (rw passes)) refl ∙ c .before .before .before .loop .inv .1,
-    )
+check-extra-overlaps-requires : tie.Need-check-extra-overlaps-requires
+check-extra-overlaps-requires c κs =
+    let least = words-named (c .before .before .before .before .args .t .now) in
+    omega arith
 
-returns-2 : tie.Need-returns-2 Inv-loop μ-loop
-returns-2 c = sym (gather-end (overlapTests (c .before .before .before .args .t .now)) slotCount (c .before .loop .k) (omega arith)) ∙ c .before .loop .inv .1
+returns-2 : tie.Need-returns-2
+returns-2 c =
+    let s = c .before .before .before .before .before in
+    let t = s .args .t .now in
+    c .check-extra-overlaps .ensures
+    ∙ ap (λ (n : ℕ). firstOf (gather (overlapTests t) namedCount (n - namedCount))) (s .pre)
+    ∙ split-go (overlapTests t) namedCount (wordCount t) (words-named t) _ (c .before .before .before .check-named-overlaps .ensures) (c .before .enum-told2 .given .1)
 
 pub check-overlaps-spec : {M : Type 1} → statement M
-check-overlaps-spec = tie.close (tie.spec Inv-loop μ-loop (search needs) (search needs) (search needs) (search needs) (search needs) returns (search needs) (search needs) loop-again returns-2)
+check-overlaps-spec = tie.close (tie.spec (search needs) (search needs) returns (search needs) check-extra-overlaps-requires returns-2)

@@ -1,21 +1,21 @@
 -- `index_of` meets its contract, number by number. Assumes nothing.
 use mathlib.Core.Path.{_≡_, sym, ap}
 use Prim.Native.Nat.{ℕ}
-use Rattle.ibft_table.specs.Layout.{Slot, slotOf, indexOf}
-use Rattle.ibft_table.proofs.LayoutLaws.{last-arm, slot-past}
+use Rattle.ibft_table.specs.Layout.{indexOf}
+use Rattle.ibft_table.proofs.LayoutLaws.{last-arm, index-past}
 use Rattle.ibft_table.proofs.layout.index_of.Statement.{statement}
 use Rattle.ibft_table.proofs.layout.index_of.Tie as tie
 
--- slot m, where n is m
+-- number m, where n is m
 row : (m n : ℕ) → n ≡ m → indexOf m ≡ indexOf n
-row m n e = ap indexOf (sym e)
+row m n e = ap (indexOf) (sym e)
 
 rest : tie.Need-returns-5
-unfolding indexOf slotOf
-rest c = last-arm indexOf 4 _ (c .match .rest) (λ h. ap (λ (s : Slot). s .index) (slot-past _ h))
+unfolding indexOf
+rest c = last-arm indexOf 4 _ (c .match .rest) (λ h. index-past _ h)
 
 pub index-of-spec : {M : Type 1} → statement M
-unfolding indexOf slotOf
+unfolding indexOf
 index-of-spec =
     tie.close
     (tie.spec

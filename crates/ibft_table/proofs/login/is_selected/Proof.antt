@@ -1,5 +1,5 @@
 -- `is_selected` meets its contract: a target that is not valid is not selected, whatever its flags. Assumes nothing.
-use mathlib.Core.Path.{_≡_, sym, _∙_}
+use mathlib.Core.Path.{sym, _∙_}
 use borrow.Author.Tests.{not-true, not-false}
 use Rattle.ibft_table.specs.Login.{selected}
 use borrow.Author.Needs.{needs}

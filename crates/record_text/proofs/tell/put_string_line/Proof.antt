@@ -16,7 +16,7 @@ returns c =
     let reading = c .before .before .before .read-entry in
     puts-same (puts-nothing _ 0 (search needs))
     (ap (shownLine (a .hide) (a .f))
-    (entry-none (a .t .now) (a .f) (start .pre .0) (start .pre .1) (number .result) (number .ensures) (reading .result) (reading .ensures) (c .if1 .taken)))
+    (entry-none (a .t .now) (a .f) (start .pre .0) (start .pre .1) (start .pre .2) (number .result) (number .ensures) (reading .result) (reading .ensures) (c .if1 .taken)))
 
 returns-2 : tie.Need-returns-2
 returns-2 c =
@@ -27,7 +27,7 @@ returns-2 c =
     let view = c .before .before .before .entry-view in
     puts-same (c .before .before .put-field .ensures)
     (ap (shownLine (a .hide) (a .f))
-    (entry-field (a .t .now) (a .f) (start .pre .0) (start .pre .1) (number .result) (number .ensures) (reading .result) (reading .ensures)
+    (entry-field (a .t .now) (a .f) (start .pre .0) (start .pre .1) (start .pre .2) (number .result) (number .ensures) (reading .result) (reading .ensures)
     (c .before .before .before .before .before .if1 .left) _ (view .ensures .view-is)))
 
 pub put-string-line-spec : {M : Type 1} → statement M

@@ -14,7 +14,7 @@ returns c =
     let a = start .args in
     let reading = c .before .before .before .read-structure in
     puts-same (puts-nothing _ 0 (search needs))
-    (ap (shownLine (a .hide) (a .f)) (structure-none (a .t .now) (a .f) (start .pre .0) (start .pre .1) (reading .result) (reading .ensures) (c .if1 .taken)))
+    (ap (shownLine (a .hide) (a .f)) (structure-none (a .t .now) (a .f) (start .pre .0) (start .pre .1) (start .pre .2) (reading .result) (reading .ensures) (c .if1 .taken)))
 
 returns-2 : tie.Need-returns-2
 returns-2 c =
@@ -25,7 +25,7 @@ returns-2 c =
     let view = c .before .before .before .before .before .before .before .structure-view in
     puts-same (c .before .before .put-field .ensures)
     (ap (shownLine (a .hide) (a .f))
-    (structure-field (a .t .now) (a .f) (start .pre .0) (start .pre .1) (reading .result) (reading .ensures) (c .before .before .before .before .before .before .before .before .before .if1 .left)
+    (structure-field (a .t .now) (a .f) (start .pre .0) (start .pre .1) (start .pre .2) (reading .result) (reading .ensures) (c .before .before .before .before .before .before .before .before .before .if1 .left)
     (field .result) (field .ensures) _ _ (view .ensures .view-is) (c .before .before .before .part .ensures .bytes)))
 
 pub put-structure-line-spec : {M : Type 1} → statement M

@@ -1,0 +1,19 @@
+-- `twin` meets its contract: by the kind, then by the Index. Assumes nothing.
+use mathlib.Core.Path.{sym, ap₂, _∙_}
+use borrow.Author.Tests.{not-true, not-false}
+use lib.Dec.{eqb}
+use Rattle.ibft_table.specs.Check.{twin}
+use borrow.Author.Needs.{needs}
+use Rattle.ibft_table.proofs.check_words.twin.Statement.{statement}
+use Rattle.ibft_table.proofs.check_words.twin.Tie as tie
+
+returns : tie.Need-returns
+unfolding twin
+returns c = simp (sym (c .before .alike .ensures) ∙ not-true _ (c .if1 .taken))
+
+returns-2 : tie.Need-returns-2
+unfolding twin
+returns-2 c = simp (sym (c .before .before .before .alike .ensures) ∙ not-false _ (c .before .before .if1 .left)) (ap₂ eqb (c .before .index-at .ensures) (c .index-at2 .ensures))
+
+pub twin-spec : {M : Type 1} → statement M
+twin-spec = tie.close (tie.spec (search needs) returns (search needs) (search needs) returns-2)
