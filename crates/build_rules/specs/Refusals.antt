@@ -18,7 +18,7 @@ unfoldable pub hasZero : List ℕ → Bool
 hasZero [] = false
 hasZero (b ∷ t) = eqb b 0 || hasZero t
 
--- a mark behind an extra's image is neither 0 nor 1
+-- one of the n presence marks from `at` on is neither 0 nor 1
 unfoldable pub badMark : List ℕ → ℕ → ℕ → Bool
 badMark r at n = any n (λ (j : ℕ). ltb 1 (byte r (at + j)))
 
