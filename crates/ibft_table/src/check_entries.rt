@@ -11,6 +11,7 @@ use crate::layout::owner_of;
 use crate::layout::string_of;
 use crate::seats::starts_of;
 use crate::starts::start_in;
+use crate::text::Text;
 use crate::verdict::Verdict;
 use crate::verdict::refuse;
 use crate::words::control_end;
@@ -20,7 +21,6 @@ use crate::words::start_at;
 use hostname::is_host_name;
 use octets::read::byte_at;
 use octets::read::part;
-use octets::read::u16_at;
 ghost use mathlib.Core.Path.{_≡_};
 ghost use mathlib.Core.List.{[], _∷_};
 ghost use mathlib.Core.Bool.{cond, not, _&&_};
@@ -135,8 +135,9 @@ fn check_entry(starts: &[u16], t: &[u8], length: u32, heap: u32, n: u8) -> Verdi
     }
     let string = string_of(n as u16);
     let field = start as u32 + string.at as u32;
-    let size = u16_at(t, field as usize);
-    let offset = u16_at(t, field as usize + 2);
+    let text = Text::read(t, field);
+    let size = text.length;
+    let offset = text.offset;
     if missing(size, offset) {
         return Verdict::Accepted;
     }

@@ -1,10 +1,9 @@
 -- `read_structure` meets its contract, by cases of its verdict. Assumes nothing.
-use mathlib.Core.Path.{_≡_}
-use Rattle.ibft_table.specs.Layout.{slotAt}
-use Rattle.ibft_table.specs.Table.{startsOf, nicsIn}
+use mathlib.Core.Path.{_≡_, sym, _∙_}
 use Rattle.ibft_table.specs.Verdict.{refusalOf}
-use Rattle.ibft_table.specs.Readings.{slotVerdict, structureFrom, structureGot, structureOf}
+use Rattle.ibft_table.specs.Readings.{structureFrom, structureGot, structureOf}
 use Rattle.ibft_table.specs.declared.verdict.Verdict.the-variants.{Accepted, Refused}
+use Rattle.ibft_table.proofs.ReadingLaws.{slotJudged}
 use borrow.Author.Needs.{needs}
 use Rattle.ibft_table.proofs.structure.read_structure.Statement.{statement}
 use Rattle.ibft_table.proofs.structure.read_structure.Tie as tie
@@ -13,14 +12,23 @@ returns : tie.Need-returns
 unfolding structureOf structureGot structureFrom refusalOf
 returns c =
     let a = c .before .before .before .before .before .before .before .before .before .before .before .before .before .before .args in
-    let accepted : slotVerdict (startsOf (a .t .now)) (a .t .now) (a .number) (slotAt (nicsIn (startsOf (a .t .now))) (a .number)) ≡ Accepted = cc in
-    rw accepted (cc)
+    let starts = c .before .before .before .before .before .before .before .before .before .before .before .before .starts-of .ensures in
+    let k = c .before .before .before .before .before .before .before .before .before .before .slot-at .ensures in
+    let verdict = c .before .before .before .before .before .before .before .before .slot-verdict in
+    let judged : verdict .result ≡ slotJudged (a .t .now) (a .number) = rw (k, starts) at (verdict .ensures) in
+    let accepted : slotJudged (a .t .now) (a .number) ≡ Accepted = sym judged ∙ c .before .before .before .before .before .before .enum-told .given .1 in
+    rw accepted
+    (rw (c .byte-at .ensures, c .before .index-in .ensures, c .before .before .before .id-of .ensures, c .before .before .before .before .start-in .ensures, k, starts))
 
 returns-2 : tie.Need-returns-2
 unfolding structureOf structureGot structureFrom refusalOf
 returns-2 c =
     let a = c .before .before .before .before .before .before .before .before .before .args in
-    let refused : slotVerdict (startsOf (a .t .now)) (a .t .now) (a .number) (slotAt (nicsIn (startsOf (a .t .now))) (a .number)) ≡ Refused (c .before .refusal .given .0 .0) = cc in
+    let starts = c .before .before .before .before .before .before .before .starts-of .ensures in
+    let k = c .before .before .before .before .before .slot-at .ensures in
+    let verdict = c .before .before .before .slot-verdict in
+    let judged : verdict .result ≡ slotJudged (a .t .now) (a .number) = rw (k, starts) at (verdict .ensures) in
+    let refused : slotJudged (a .t .now) (a .number) ≡ Refused (c .before .refusal .given .0 .0) = sym judged ∙ c .before .refusal .given .1 in
     rw refused
 
 pub read-structure-spec : {M : Type 1} → statement M
