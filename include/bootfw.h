@@ -1,6 +1,7 @@
 /*
  * bootfw.h: the C interface of libbootfw.a, for firmware that looks for an
- * iSCSI Boot Firmware Table (iBFT) in low memory, checks it or builds one.
+ * iSCSI Boot Firmware Table (iBFT) in low memory, checks it, builds one or builds
+ * again what one holds.
  *
  * docs/C-INTERFACE.md says how to link, what a caller has to keep and how an
  * answer is split. Offsets in comments count bytes from the start of the
@@ -30,7 +31,7 @@
  * is added; MAJOR where a program that was written for an earlier version may
  * have to be changed, and MINOR is 0 then. */
 #define BOOTFW_VERSION_MAJOR 1
-#define BOOTFW_VERSION_MINOR 1
+#define BOOTFW_VERSION_MINOR 2
 #define BOOTFW_VERSION (BOOTFW_VERSION_MAJOR * 0x10000 + BOOTFW_VERSION_MINOR)
 
 /* A layout that differs from the published one must not compile. The array of
@@ -417,9 +418,9 @@ BOOTFW_ASSERT(largest_record, IBFT_RECORD_SIZE(IBFT_MOST_EXTRAS, IBFT_MOST_EXTRA
 /* ---- Answers --------------------------------------------------------------- */
 
 /* The number of an answer: 0, or why the call refused. A scan gives 1 and 2, a
- * check 3 to 19, 33 and 34, a build 8, 10, 13, 17 to 21, 24, 25, 33 and 34. The
- * numbers 22 and 23 belong to readings, which C makes through the structures: no call
- * here gives them. */
+ * check 3 to 19, 33 and 34, a build 8, 10, 13, 17 to 21, 24, 25, 33 and 34, a rebuild
+ * those of a check, 20 and 21. The numbers 22 and 23 belong to readings, which C makes
+ * through the structures: no call here gives them. */
 enum ibft_refusal {
     IBFT_ACCEPTED = 0,               /* no refusal */
     IBFT_REFUSED_PAST_WINDOW = 1,    /* scan: address + size above 0x100000 */
@@ -441,8 +442,8 @@ enum ibft_refusal {
     IBFT_REFUSED_ENTRY_LONG = 17,    /* a string is longer than its kind may be */
     IBFT_REFUSED_HOST_NAME = 18,     /* a host name is not of the form */
     IBFT_REFUSED_CHAP_TYPE = 19,     /* CHAP type above 2 */
-    IBFT_REFUSED_ENTRY_ZERO = 20,    /* build: a zero byte in a string */
-    IBFT_REFUSED_ROOM = 21,          /* build: the least Length exceeds the room */
+    IBFT_REFUSED_ENTRY_ZERO = 20,    /* build, rebuild: a zero byte in a string */
+    IBFT_REFUSED_ROOM = 21,          /* build, rebuild: the least Length exceeds the room */
     IBFT_REFUSED_MISSING = 22,       /* reading: structure or string not there */
     IBFT_REFUSED_NO_SUCH = 23,       /* reading: slot above 16 or entry above 48 */
     IBFT_REFUSED_ENTRY_OUTSIDE = 24, /* build: a string ends past the range lent for strings */
@@ -504,13 +505,13 @@ static inline uint32_t ibft_answer_address(uint64_t answer)
     return (uint32_t)(answer >> 8) & 0xFFFFFFu;
 }
 
-/* Of a check or a build: where the fault is; 0 when accepted. */
+/* Of a check, a build or a rebuild: where the fault is; 0 when accepted. */
 static inline uint32_t ibft_answer_place(uint64_t answer)
 {
     return (uint32_t)(answer >> 8) & 0xFFFFFFu;
 }
 
-/* Of a scan or a build: the table's Length in bytes; 0 when refused. */
+/* Of a scan, a build or a rebuild: the table's Length in bytes; 0 when refused. */
 static inline uint32_t ibft_answer_length(uint64_t answer)
 {
     return (uint32_t)(answer >> 32);
@@ -548,6 +549,17 @@ uint64_t ibft_check(const uint8_t *table, size_t table_size) BOOTFW_CALL;
 uint64_t ibft_build(const uint8_t *record, size_t record_size,
                     const uint8_t *strings, size_t strings_size,
                     uint8_t *room, size_t room_size) BOOTFW_CALL;
+
+/* Builds the shortest table of what the lent table holds into the room; more may be
+ * lent than its Length. The room shares no byte with the table: that is taken on
+ * trust. The new table can be up to four bytes longer than the old one, where that had
+ * its structures in another order; room of IBFT_LARGEST_LENGTH_WITH_EXTRAS is always
+ * enough. Answers 0 with place 0 and the new table's Length, and the room past that
+ * keeps its bytes; or the first refusal of a check, with its place; or 20 with the
+ * number of the first string that holds a zero byte; or 21. When refused, Length is 0
+ * and nothing is written. */
+uint64_t ibft_rebuild(const uint8_t *table, size_t table_size,
+                      uint8_t *room, size_t room_size) BOOTFW_CALL;
 
 #ifdef __cplusplus
 }

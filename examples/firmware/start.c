@@ -4,7 +4,7 @@
  */
 #include "boot.h"
 
-/* libbootfw.a needs memset, boot.c memcpy too. They are single instructions: a
+/* libbootfw.a needs both, boot.c too. They are single instructions: a
  * compiler may turn a loop that fills or copies bytes into a call of the very
  * function it stands in. */
 void *memset(void *to, int byte, size_t size)

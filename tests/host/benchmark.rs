@@ -5,6 +5,7 @@
 //! the compiler can neither inline the callee nor know that a second call answers the same.
 
 mod benchmark_build;
+mod benchmark_rebuild;
 #[allow(dead_code)] // compare.rs uses all of it
 mod library;
 #[allow(dead_code)]
@@ -200,4 +201,5 @@ fn main() {
 
     measure_checks_with_extras();
     benchmark_build::measure_builds();
+    benchmark_rebuild::measure_rebuilds();
 }

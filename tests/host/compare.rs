@@ -17,6 +17,7 @@ mod compare_host_name;
 mod compare_least;
 mod compare_login;
 mod compare_readings;
+mod compare_rebuild;
 mod compare_scan;
 mod compare_show;
 mod compare_tail;
@@ -27,10 +28,12 @@ mod good_records;
 mod good_tables;
 mod known_builds;
 mod known_extras;
+mod known_rebuilds;
 mod known_texts;
 mod known_values;
 mod lent_build;
 mod lent_memory;
+mod lent_room;
 mod lent_table;
 mod library;
 mod model_answer;
@@ -43,12 +46,15 @@ mod model_layout;
 mod model_login;
 mod model_notation;
 mod model_readings;
+mod model_rebuild;
 mod model_record;
 mod model_record_range;
 mod model_scan;
 mod model_show;
 mod model_tail;
 mod model_text;
+mod rebuild_shapes;
+mod rebuild_sights;
 mod record_damage;
 mod record_maker;
 mod record_shapes;
@@ -79,7 +85,8 @@ fn main() {
         && compare_show::compare()
         && compare_text::compare()
         && compare_build::compare()
-        && compare_least::compare();
+        && compare_least::compare()
+        && compare_rebuild::compare();
     if !all_agree {
         std::process::exit(1);
     }

@@ -12,5 +12,7 @@ int main(void)
     return ibft_scan(memory, sizeof memory, IBFT_WINDOW_START) != IBFT_REFUSED_NO_TABLE
         || ibft_scan(memory, sizeof memory, IBFT_WINDOW_END) != IBFT_REFUSED_PAST_WINDOW
         || ibft_check(memory, sizeof memory) != IBFT_REFUSED_SIGNATURE
-        || ibft_check(memory, 0) != IBFT_REFUSED_FEW_BYTES;
+        || ibft_check(memory, 0) != IBFT_REFUSED_FEW_BYTES
+        || ibft_rebuild(memory, sizeof memory, NULL, 0) != IBFT_REFUSED_SIGNATURE
+        || ibft_rebuild(memory, 0, NULL, 0) != IBFT_REFUSED_FEW_BYTES;
 }

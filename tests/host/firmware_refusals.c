@@ -182,6 +182,40 @@ static void refuses_strings(void)
     }
 }
 
+/* ---- The rebuild ---------------------------------------------------------------- */
+
+/* The table in the room, rebuilt into so many bytes. */
+static uint64_t rebuild_into(size_t size)
+{
+    static uint8_t again[IBFT_LARGEST_LENGTH];
+
+    return ibft_rebuild(room, sizeof room, again, size);
+}
+
+/* A byte of room too few; a zero byte in each string that is no host name; what the
+ * check refuses. */
+static void refuses_rebuild(void)
+{
+    const size_t checksum = offsetof(struct ibft_table_header, checksum);
+    unsigned i;
+
+    about = "refusals of a rebuild";
+    lay_table();
+    expect_answer(rebuild_into(IBFT_LARGEST_LENGTH), IBFT_ACCEPTED, 0);
+    expect_answer(rebuild_into(IBFT_LARGEST_LENGTH - 1), IBFT_REFUSED_ROOM, 0);
+    for (i = 0; i < IBFT_ENTRIES; i++) {
+        const struct named_entry *named = &entries[i];
+
+        if (slots[named->slot].id == IBFT_ID_NIC)
+            continue;
+        lay_table();
+        expect_answer(check_with(table_entry(named).offset, 0), IBFT_ACCEPTED, 0);
+        expect_answer(rebuild_into(IBFT_LARGEST_LENGTH), IBFT_REFUSED_ENTRY_ZERO, named->number);
+    }
+    room[checksum]++;
+    expect_answer(rebuild_into(IBFT_LARGEST_LENGTH), IBFT_REFUSED_SUM, checksum);
+}
+
 /* ---- In words --------------------------------------------------------------------- */
 
 /* What the text of each number has to say and no text before it says. */
@@ -256,5 +290,6 @@ void compare_refusals(void)
     refuses_entries();
     refuses_record();
     refuses_strings();
+    refuses_rebuild();
     words_each_refusal();
 }

@@ -58,6 +58,33 @@ fn good_table_of(seeded: &mut Seeded, mut wanted: Vec<Wanted>, extra_words: usiz
     table.mended()
 }
 
+/// A good table with nothing to spare: structures stand one behind the other as close as they may, in any
+/// order, every extra word is used, and each string stands right behind the one before.
+pub fn packed_table(seeded: &mut Seeded) -> Table {
+    let mut wanted = any_named(seeded);
+    let any = any_extra_words(seeded);
+    let extra_words = seeded.one_of(&[0, 0, any]);
+    let extras = any_extras(seeded, extra_words, EXTRAS_OF_A_KIND);
+    let extra_words = extras.len();
+    let renumbered = extras.into_iter().enumerate();
+    wanted.extend(renumbered.map(|(i, extra)| Wanted {
+        word: FIRST_EXTRA + i,
+        ..extra
+    }));
+    shuffle(seeded, &mut wanted);
+    let starts = spread(seeded, &wanted, extra_words, 0, 0);
+    let mut table = table_with(seeded, &wanted, &starts, extra_words, 0);
+    let entries = table.entries();
+    let odds = seeded.one_of(&[1, 2, 8]);
+    for number in table.owned_entries() {
+        if seeded.once_in(odds) {
+            let text = any_text(seeded, &entries[number], 40);
+            table.append_text(number, &text);
+        }
+    }
+    table.mended()
+}
+
 /// A good table with at least one extra structure, some of them with bytes lent behind Length.
 pub fn table_with_extras(seeded: &mut Seeded) -> Table {
     loop {

@@ -27,6 +27,7 @@ extern "C" {
         room: *mut u8,
         room_size: usize,
     ) -> u64;
+    pub fn ibft_rebuild(table: *const u8, table_size: usize, room: *mut u8, room_size: usize) -> u64;
 
     pub fn test_host_name(name: *const u8, name_size: usize) -> u8;
     pub fn test_checksum(bytes: *const u8, size: usize, at: usize) -> u8;

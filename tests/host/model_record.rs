@@ -1,6 +1,7 @@
 //! What makes up a record: RULES.md, Record, read a second time from the two ranges that a
 //! build is lent, and from a table. Equal records are equal in all that counts.
 
+use crate::model_check::Refusal;
 use crate::model_layout::*;
 use crate::model_readings::accepted;
 use crate::model_record_range::*;
@@ -82,8 +83,13 @@ pub fn record_given(record: &[u8], strings: &[u8]) -> Record {
 
 /// The record that a table reads as; none where the check refuses it.
 pub fn record_read(table: &[u8]) -> Option<Record> {
-    let accepted = accepted(table).ok()?;
-    let header = accepted.header().ok()?;
+    record_checked(table).ok()
+}
+
+/// The same, or the check's refusal.
+pub fn record_checked(table: &[u8]) -> Result<Record, Refusal> {
+    let accepted = accepted(table)?;
+    let header = accepted.header()?;
     let extra = |found: &Found| Extra {
         kind: found.kind,
         index: found.index,
@@ -97,7 +103,7 @@ pub fn record_read(table: &[u8]) -> Option<Record> {
         let end = words.offset + words.length;
         Some(table[words.offset as usize..end as usize].to_vec())
     };
-    Some(Record {
+    Ok(Record {
         oem_id: header.oem_id.to_vec(),
         oem_table_id: header.oem_table_id.to_vec(),
         control_flags: header.control_flags,

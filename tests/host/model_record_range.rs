@@ -125,3 +125,40 @@ pub fn entries_given(record: &[u8]) -> Vec<GivenEntry> {
 pub fn given_words(record: &[u8], entry: &GivenEntry) -> (u64, u64) {
     (word(record, entry.words), word(record, entry.words + 2))
 }
+
+// ---- Of a table ----
+
+/// The range that gives the record of a table that the check accepts. Each structure's image is the structure
+/// as it stands; so its strings are given by where they stand in the table, and the table is the range of
+/// strings.
+pub fn range_of(table: &[u8]) -> Vec<u8> {
+    let slots = slots(table);
+    let count = |kind: Kind| {
+        let extras = slots[SLOTS.len()..].iter();
+        extras.filter(|found| found.kind == kind).count()
+    };
+    let (nics, targets) = (count(NIC), count(TARGET));
+    let mut range = vec![0; range_size(nics, targets)];
+    range[GIVEN_OEM_ID].copy_from_slice(&table[OEM_ID]);
+    range[GIVEN_OEM_TABLE_ID].copy_from_slice(&table[OEM_TABLE_ID]);
+    range[GIVEN_CONTROL_FLAGS] = byte(table, CONTROL_START + FLAGS_AT) as u8;
+    range[EXTRA_NICS] = nics as u8;
+    range[EXTRA_TARGETS] = targets as u8;
+    let given = slots_given(&range);
+    for (slot, found) in slots.iter().enumerate() {
+        let start = match found.start {
+            Some(start) => start as usize,
+            None => continue,
+        };
+        if slot < SLOTS.len() {
+            range[SLOT_MARKS][slot] = 1;
+        }
+        let size = found.kind.length as usize;
+        range[given[slot].image as usize..][..size].copy_from_slice(&table[start..start + size]);
+        for (i, text) in found.kind.texts.iter().enumerate() {
+            let is_missing = number(table, start as u64 + text.at, 4) == 0;
+            range[given[slot].marks + i] = u8::from(!is_missing);
+        }
+    }
+    range
+}

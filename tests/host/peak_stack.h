@@ -5,7 +5,7 @@
 #include <stddef.h>
 #include <stdint.h>
 
-/* Under 2 KiB for every call. */
+/* Under 2 KiB for every call but the rebuild, which has a limit of its own. */
 enum { CALL_LIMIT = 2047 };
 
 /* Extras of each kind, where there are any, and NICs and targets with them; the greatest Length without
@@ -33,6 +33,7 @@ const uint8_t *table_bytes(void);
 void expect_length(size_t length, size_t expected);
 
 void measure_builds(void);
+void measure_rebuilds(void);
 void measure_readings(void);
 
 #endif

@@ -99,9 +99,23 @@ fn shapes() -> impl Iterator<Item = (usize, Shape)> {
 }
 
 /// Shows every input to `agrees`, until one does not.
-pub fn all_agree(mut agrees: impl FnMut(Input) -> bool) -> bool {
-    for (i, shape @ (_, inputs, _)) in shapes() {
-        for n in 0..inputs {
+pub fn all_agree(agrees: impl FnMut(Input) -> bool) -> bool {
+    inputs_agree(shapes(), 1, agrees)
+}
+
+/// Shows one input in `step` of each shape.
+pub fn some_agree(step: usize, agrees: impl FnMut(Input) -> bool) -> bool {
+    inputs_agree(shapes(), step, agrees)
+}
+
+/// Shows one input in `step` of each of these shapes, whose numbers keep their seeds apart.
+pub fn inputs_agree(
+    shapes: impl Iterator<Item = (usize, Shape)>,
+    step: usize,
+    mut agrees: impl FnMut(Input) -> bool,
+) -> bool {
+    for (i, shape @ (_, inputs, _)) in shapes {
+        for n in (0..inputs).step_by(step) {
             if !agrees(input(i, shape, n)) {
                 return false;
             }

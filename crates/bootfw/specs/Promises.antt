@@ -8,6 +8,8 @@ use Rattle.ibft_table.specs.Check.{checkOf}
 use Rattle.ibft_table.specs.Promises.{Check}
 use Rattle.build_rules.specs.Build.{answerOf}
 use Rattle.build_rules.specs.Promises.{Promise as Build}
+use Rattle.build_rules.specs.Rebuild.{rebuildAnswer}
+use Rattle.build_rules.specs.RebuildPromises.{Rebuild}
 use lib.ListN.{length}
 use Rattle.bootfw.specs.Pack.{Packs}
 
@@ -27,3 +29,10 @@ pub record BuildAnswer (range strings before after : List ℕ) (r : ℕ) : Type 
   pub answer : Packs ((answerOf range strings (length before)) .refusal .number) ((answerOf range strings (length before)) .refusal .place)
       ((answerOf range strings (length before)) .length) r
   pub promise : Build range strings before (answerOf range strings (length before)) after
+
+-- `ibft_rebuild`: the rebuild's number, place and Length, packed; and what the rebuild promises of the answer and of the room that
+-- held `before` and holds `after`
+pub record RebuildAnswer (table before after : List ℕ) (r : ℕ) : Type 0 where
+  pub answer : Packs ((rebuildAnswer table (length before)) .refusal .number) ((rebuildAnswer table (length before)) .refusal .place)
+      ((rebuildAnswer table (length before)) .length) r
+  pub promise : Rebuild table before (rebuildAnswer table (length before)) after

@@ -3,7 +3,7 @@ use ibft_table::verdict::Verdict;
 use scan::Family;
 ghost use Prim.Native.Nat.{_<_, _^_};
 ghost use Rattle.bootfw.specs.Pack.{Packs};
-ghost use Rattle.bootfw.specs.Promises.{ScanAnswer, CheckAnswer, BuildAnswer};
+ghost use Rattle.bootfw.specs.Promises.{ScanAnswer, CheckAnswer, BuildAnswer, RebuildAnswer};
 
 // An answer as one number: bits 0 to 7 the number, bits 8 to 31 the place or the address, bits 32 to 63 the Length.
 fn packed(number: u8, place: u32, length: u32) -> u64
@@ -42,4 +42,15 @@ pub extern "C" fn ibft_build(range: &[u8], strings: &[u8], room: &mut [u8]) -> u
     let built = ibft_build::build::build(range, strings, room);
     let refusal = built.refusal;
     packed(refusal.number, refusal.place, built.length)
+}
+
+// Builds the record that a table holds again, in the least Length: number, place and Length. A refused rebuild leaves the room as it
+// was. The room must share no byte with the table.
+#[no_mangle]
+pub extern "C" fn ibft_rebuild(table: &[u8], room: &mut [u8]) -> u64
+    ensures { λ r. ⌜ RebuildAnswer (now (table .entry)) (now (room .entry)) (now (room .exit)) r ⌝ }
+{
+    let rebuilt = ibft_rebuild::rebuild::rebuild(table, room);
+    let refusal = rebuilt.refusal;
+    packed(refusal.number, refusal.place, rebuilt.length)
 }

@@ -1,8 +1,7 @@
 -- Laws of the plan as a whole.
 --     heap-is      the heap starts at the last of the ends
 --     length-is    Length, as the code adds it up
---     plan-is      the plan from its parts
---     planned      what a plan says, part by part
+--     known        what follows from a plan
 -- Assumes nothing.
 use mathlib.Core.Path.{_≡_, sym, ap, ap₂, _∙_}
 use mathlib.Core.List.{List}
@@ -16,8 +15,7 @@ use Rattle.string_heap.specs.Stored.{every, heapSize}
 use Rattle.ibft_table.specs.Layout.{slotCount, entryCount, controlEnd}
 use Rattle.build_rules.specs.RecordRange.{contentGiven}
 use Rattle.build_rules.specs.Plan.{heapStart, lengthBuilt, offsetBuilt}
-use Rattle.ibft_build.specs.declared.plan.Plan.{Plan}
-use Rattle.ibft_build.specs.Planning.{entryLimit, extrasGiven, fieldGiven, entryFields, entriesGiven, endGiven, wantedSizes, sizeGiven, heapSizes, entryOffsets, structureEnds, planOf}
+use Rattle.ibft_build.specs.Planning.{entryLimit, extrasGiven, fieldGiven, entryFields, entriesGiven, endGiven, wantedSizes, sizeGiven, heapSizes, entryOffsets, structureEnds, Planned}
 use Rattle.ibft_build.proofs.StartLaws.{ends-at, ends-bound, end-built, end-first, end-grows}
 use Rattle.ibft_build.proofs.RecordLaws.{entry-limit-most}
 use Rattle.ibft_build.proofs.EntryLaws.{wanted-count}
@@ -41,50 +39,33 @@ module _ (r s : List ℕ) where
       let sum : m ≡ sumTo k (sizeGiven r s) = sizes-sum r s sizes are k (omega (arith, entry-limit-most r)) m e in
       ap₂ (λ (x y : ℕ). x + y) h (sum ∙ ap (λ (n : ℕ). sumTo n (sizeGiven r s)) end ∙ heap-sum)
 
-  pub plan-is : (ends fields wanted sizes offsets : List ℕ) (n : ℕ) → ends ≡ structureEnds r → fields ≡ entryFields r → wanted ≡ wantedSizes r → sizes ≡ heapSizes r s
-      → offsets ≡ entryOffsets r s → n ≡ lengthBuilt (contentGiven r s)
-      → _≡_ {A = Plan} (record { ends = ends; fields = fields; wanted = wanted; sizes = sizes; offsets = offsets; length = n }) (planOf r s)
-  unfolding planOf
-  plan-is ends fields wanted sizes offsets n a f w b d e = rw (a, f, w, b, d, e)
+-- what follows from a plan
+module _ (r s ends fields wanted sizes offsets : List ℕ) (size : ℕ) (plan : Planned r s ends fields wanted sizes offsets size) where
+  pub record Known : Type 0 where
+    pub fields-count : length fields ≡ entryCount
+    pub wanted-count : length wanted ≡ entryCount
+    pub sizes-count : length sizes ≡ entryCount
+    pub offsets-count : length offsets ≡ entryCount
+    -- the heap's start and end
+    pub end : getD ends slotCount 0 ≡ endGiven r slotCount
+    pub start : getD ends slotCount 0 ≡ heapStart (contentGiven r s)
+    pub whole : getD ends slotCount 0 + heapSize entryCount every (entriesGiven r s) ≡ size
+    pub low : controlEnd (extrasGiven r) ≤ getD ends slotCount 0
+    pub high : getD ends slotCount 0 ≤ 1454
 
-pub record Planned (r s : List ℕ) (p : Plan) : Type 0 where
-  pub ends-are : p .ends ≡ structureEnds r
-  pub fields-are : p .fields ≡ entryFields r
-  pub fields-count : length (p .fields) ≡ entryCount
-  pub wanted-are : p .wanted ≡ wantedSizes r
-  pub wanted-count : length (p .wanted) ≡ entryCount
-  pub sizes-are : p .sizes ≡ heapSizes r s
-  pub sizes-count : length (p .sizes) ≡ entryCount
-  pub offsets-are : p .offsets ≡ entryOffsets r s
-  pub offsets-count : length (p .offsets) ≡ entryCount
-  pub length-are : p .length ≡ lengthBuilt (contentGiven r s)
-  -- the heap's start and end
-  pub end : getD (p .ends) slotCount 0 ≡ endGiven r slotCount
-  pub start : getD (p .ends) slotCount 0 ≡ heapStart (contentGiven r s)
-  pub whole : getD (p .ends) slotCount 0 + heapSize entryCount every (entriesGiven r s) ≡ p .length
-  pub low : controlEnd (extrasGiven r) ≤ getD (p .ends) slotCount 0
-  pub high : getD (p .ends) slotCount 0 ≤ 1454
-
-pub planned : (r s : List ℕ) (p : Plan) → p ≡ planOf r s → Planned r s p
-unfolding planOf lengthBuilt entryFields entryOffsets
-planned r s p e =
-    let ends : p .ends ≡ structureEnds r = ap (λ (q : Plan). q .ends) e in
-    let at = ends-at r (p .ends) ends slotCount (omega arith) in
-    let start = heap-is r s (p .ends) ends in
-    record {
-      ends-are = ends;
-      fields-are = ap (λ (q : Plan). q .fields) e;
-      fields-count = ap (λ (q : Plan). length (q .fields)) e ∙ length-tabulate (fieldGiven r) 0 entryCount;
-      wanted-are = ap (λ (q : Plan). q .wanted) e;
-      wanted-count = wanted-count r (p .wanted) (ap (λ (q : Plan). q .wanted) e);
-      sizes-are = ap (λ (q : Plan). q .sizes) e;
-      sizes-count = sizes-count r s (p .sizes) (ap (λ (q : Plan). q .sizes) e);
-      offsets-are = ap (λ (q : Plan). q .offsets) e;
-      offsets-count = ap (λ (q : Plan). length (q .offsets)) e ∙ length-tabulate (offsetBuilt (contentGiven r s)) 0 entryCount;
-      length-are = ap (λ (q : Plan). q .length) e;
-      end = at;
-      start = start;
-      whole = ap (λ (n : ℕ). n + heapSize entryCount every (entriesGiven r s)) start ∙ sym (ap (λ (q : Plan). q .length) e);
-      low = omega (arith, end-first r, end-grows r 0 slotCount (omega arith));
-      high = ends-bound r (p .ends) ends slotCount (omega arith);
-    }
+  pub known : Known
+  unfolding lengthBuilt entryFields entryOffsets
+  known =
+      let at = ends-at r ends (plan .ends-are) slotCount (omega arith) in
+      let start = heap-is r s ends (plan .ends-are) in
+      record {
+        fields-count = ap (λ (l : List ℕ). length l) (plan .fields-are) ∙ length-tabulate (fieldGiven r) 0 entryCount;
+        wanted-count = wanted-count r wanted (plan .wanted-are);
+        sizes-count = sizes-count r s sizes (plan .sizes-are);
+        offsets-count = ap (λ (l : List ℕ). length l) (plan .offsets-are) ∙ length-tabulate (offsetBuilt (contentGiven r s)) 0 entryCount;
+        end = at;
+        start = start;
+        whole = ap (λ (n : ℕ). n + heapSize entryCount every (entriesGiven r s)) start ∙ sym (plan .length-is);
+        low = omega (arith, end-first r, end-grows r 0 slotCount (omega arith));
+        high = ends-bound r ends (plan .ends-are) slotCount (omega arith);
+      }

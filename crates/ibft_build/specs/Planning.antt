@@ -14,7 +14,6 @@ use Rattle.build_rules.specs.RecordRange.{baseSize, nicsGiven, targetsGiven, im
 use Rattle.build_rules.specs.Plan.{turnOf, lengthBuilt, offsetBuilt}
 use Rattle.build_rules.specs.Build.{answerOf, roomAfter}
 use Rattle.build_rules.specs.declared.Built.{Built}
-use Rattle.ibft_build.specs.declared.plan.Plan.{Plan}
 
 -- the range has the images of all that it gives
 pub record Whole (r : List ℕ) : Type 0 where
@@ -83,17 +82,15 @@ structureEnds r = tabulate (endGiven r) 0 (slotCount + 1)
 unfoldable pub structureStart : List ℕ → ℕ → ℕ
 structureStart r k = cond (structureGiven r k) (align8 (endGiven r (turnOf k))) 0
 
--- the whole plan
-unfoldable pub planOf : List ℕ → List ℕ → Plan
-planOf r s =
-    record {
-      ends = structureEnds r;
-      fields = entryFields r;
-      wanted = wantedSizes r;
-      sizes = heapSizes r s;
-      offsets = entryOffsets r s;
-      length = lengthBuilt (contentGiven r s);
-    }
+-- the whole plan: where structures end; of each entry where the range holds its words, what it would take in the heap, what it takes
+-- there, and its offset; the table's Length
+pub record Planned (r s ends fields wanted sizes offsets : List ℕ) (size : ℕ) : Type 0 where
+  pub ends-are : ends ≡ structureEnds r
+  pub fields-are : fields ≡ entryFields r
+  pub wanted-are : wanted ≡ wantedSizes r
+  pub sizes-are : sizes ≡ heapSizes r s
+  pub offsets-are : offsets ≡ entryOffsets r s
+  pub length-is : size ≡ lengthBuilt (contentGiven r s)
 
 -- what a build leaves: its answer and the room after it are the definitions'
 pub record Ends (r s before : List ℕ) (answer : Built) (after : List ℕ) : Type 0 where

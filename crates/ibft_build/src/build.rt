@@ -1,8 +1,16 @@
-// The build. Refusals of the contents come first, then the plan, then want of room; only then is the first byte written.
-use crate::plan::plan_of;
+// The build. Refusals of the contents come first, then the plan (where structures end; of each entry where the range holds its words,
+// what it would take in the heap, what it takes there), which settles Length, then want of room; only then is the first byte written.
+use crate::offsets::entry_offsets;
+use crate::offsets::sum_below;
+use crate::record::entry_limit;
 use crate::refusals::contents_verdict;
+use crate::starts::structure_ends;
+use crate::stored::entry_fields;
+use crate::stored::heap_sizes;
+use crate::stored::wanted_sizes;
 use crate::write_table::put_table;
 use build_rules::Built;
+use ibft_table::layout::SLOT_COUNT;
 use ibft_table::verdict::Refusal;
 use ibft_table::verdict::Verdict;
 ghost use mathlib.Core.Path.{_≡_};
@@ -16,8 +24,13 @@ fn build_contents(range: &[u8], strings: &[u8], room: &mut [u8]) -> Built
     requires { ⌜ contentsVerdict (now range) (now strings) ≡ Accepted ⌝ }
     ensures { λ r. ⌜ Ends (now (range .entry)) (now (strings .entry)) (now (room .entry)) r (now (room .exit)) ⌝ }
 {
-    let plan = plan_of(range, strings);
-    let length = plan.length;
+    let ends = structure_ends(range);
+    let heap = ends[SLOT_COUNT as usize];
+    let limit = entry_limit(range);
+    let fields = entry_fields(range, limit);
+    let wanted = wanted_sizes(range, limit);
+    let sizes = heap_sizes(range, strings, &wanted, &fields, limit);
+    let length = heap as u32 + sum_below(&sizes, limit);
     if room.len() < length as usize {
         return Built {
             refusal: Refusal {
@@ -27,7 +40,18 @@ fn build_contents(range: &[u8], strings: &[u8], room: &mut [u8]) -> Built
             length: 0,
         };
     }
-    put_table(room, range, strings, plan);
+    let offsets = entry_offsets(range, strings, &wanted, &fields, &sizes, limit, heap);
+    put_table(
+        room,
+        range,
+        strings,
+        &ends,
+        &fields,
+        &wanted,
+        &sizes,
+        &offsets,
+        length,
+    );
     Built {
         refusal: Refusal {
             number: 0,

@@ -1,7 +1,6 @@
 // The build: the record range, what is refused of it, the plan, and the table's bytes written into the lent room.
 pub mod build;
 mod offsets;
-mod plan;
 mod record;
 mod refusals;
 mod refusals_extras;

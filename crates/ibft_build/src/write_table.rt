@@ -1,5 +1,4 @@
 // The whole table into the room: header, Control, structures, heap, each into its own stretch, and the checksum last.
-use crate::plan::Plan;
 use crate::record::entry_limit;
 use crate::starts::control_end;
 use crate::write_header::put_control;
@@ -18,7 +17,7 @@ ghost use Rattle.ibft_table.specs.Layout.{controlEnd};
 ghost use Rattle.build_rules.specs.RecordRange.{contentGiven};
 ghost use Rattle.build_rules.specs.Plan.{lengthBuilt};
 ghost use Rattle.build_rules.specs.TableBytes.{bareTable, tableOf};
-ghost use Rattle.ibft_build.specs.Planning.{Whole, Readable, extrasGiven, structureEnds, planOf};
+ghost use Rattle.ibft_build.specs.Planning.{Whole, Readable, Planned, extrasGiven, structureEnds};
 ghost use Rattle.ibft_build.specs.Writing.{headerWith, controlWith};
 
 // Where the checksum stands.
@@ -34,29 +33,28 @@ fn put_front(room: &mut [u8], range: &[u8], ends: &[u16], size: u32)
     put_control(&mut room[48..end], range, ends);
 }
 
-// Writes all but the checksum.
-fn put_bare(room: &mut [u8], range: &[u8], strings: &[u8], plan: Plan)
-    requires { ⌜ Readable (now range) (now strings) × (plan ≡ planOf (now range) (now strings)) × (lengthBuilt (contentGiven (now range) (now strings)) ≤ length (now room)) ⌝ }
+// Writes all but the checksum. What a plan says is lent: where structures end, where each entry's words stand in the range, what it
+// would take in the heap, what it takes there, its offset; and the table's Length.
+fn put_bare(
+    room: &mut [u8],
+    range: &[u8],
+    strings: &[u8],
+    ends: &[u16],
+    fields: &[u16],
+    wanted: &[u16],
+    sizes: &[u16],
+    offsets: &[u16],
+    size: u32,
+)
+    requires { ⌜ Readable (now range) (now strings) × Planned (now range) (now strings) (now ends) (now fields) (now wanted) (now sizes) (now offsets) size × (lengthBuilt (contentGiven (now range) (now strings)) ≤ length (now room)) ⌝ }
     ensures { λ _. ⌜ now (room .exit) ≡ write (now (room .entry)) 0 (bareTable (contentGiven (now (range .entry)) (now (strings .entry)))) ⌝ }
 {
-    let ends = plan.ends;
-    put_front(room, range, &ends, plan.length);
-    let offsets = plan.offsets;
-    let wanted = plan.wanted;
-    put_structures(room, range, &ends, &wanted, &offsets);
+    put_front(room, range, ends, size);
+    put_structures(room, range, ends, wanted, offsets);
     let start = ends[SLOT_COUNT as usize] as usize;
-    let end = plan.length as usize;
-    let sizes = plan.sizes;
+    let end = size as usize;
     let limit = entry_limit(range);
-    let fields = plan.fields;
-    put_heap(
-        &mut room[start..end],
-        range,
-        strings,
-        &fields,
-        &sizes,
-        limit,
-    );
+    put_heap(&mut room[start..end], range, strings, fields, sizes, limit);
 }
 
 // Sets the checksum of the table that the first `size` bytes are.
@@ -69,11 +67,30 @@ fn put_checksum(room: &mut [u8], size: usize)
 }
 
 // Writes the table of a plan that the room has space for. Room past Length keeps its bytes.
-pub(crate) fn put_table(room: &mut [u8], range: &[u8], strings: &[u8], plan: Plan)
-    requires { ⌜ Readable (now range) (now strings) × (plan ≡ planOf (now range) (now strings)) × (lengthBuilt (contentGiven (now range) (now strings)) ≤ length (now room)) ⌝ }
+pub(crate) fn put_table(
+    room: &mut [u8],
+    range: &[u8],
+    strings: &[u8],
+    ends: &[u16],
+    fields: &[u16],
+    wanted: &[u16],
+    sizes: &[u16],
+    offsets: &[u16],
+    size: u32,
+)
+    requires { ⌜ Readable (now range) (now strings) × Planned (now range) (now strings) (now ends) (now fields) (now wanted) (now sizes) (now offsets) size × (lengthBuilt (contentGiven (now range) (now strings)) ≤ length (now room)) ⌝ }
     ensures { λ _. ⌜ now (room .exit) ≡ tableOf (contentGiven (now (range .entry)) (now (strings .entry))) ++ drop (lengthBuilt (contentGiven (now (range .entry)) (now (strings .entry)))) (now (room .entry)) ⌝ }
 {
-    let size = plan.length as usize;
-    put_bare(room, range, strings, plan);
-    put_checksum(room, size);
+    put_bare(
+        room,
+        range,
+        strings,
+        ends,
+        fields,
+        wanted,
+        sizes,
+        offsets,
+        size,
+    );
+    put_checksum(room, size as usize);
 }

@@ -1,0 +1,2 @@
+pub mod RangeWriteLaws
+pub mod RebuildLaws
