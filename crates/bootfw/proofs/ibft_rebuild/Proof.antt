@@ -1,8 +1,11 @@
 -- `ibft_rebuild` meets its contract: a rebuild's place fits its bits, so the three parts can be told from the packed number.
 -- Assumes nothing.
 use mathlib.Core.Path.{_≡_, ap}
+use mathlib.Core.List.{List}
+use Prim.Native.Nat.{ℕ, _<_, _^_}
 use native.Mathlib.Omega.{arith}
 use lib.ListN.{length}
+use Rattle.octets.specs.Octets.{byte}
 use Rattle.build_rules.specs.Rebuild.{rebuildAnswer}
 use Rattle.build_rules.specs.declared.Built.{Built}
 use Rattle.build_rules.proofs.RebuildLaws.{rebuild-placed}
@@ -10,16 +13,14 @@ use borrow.Author.Needs.{needs}
 use Rattle.bootfw.proofs.ibft_rebuild.Statement.{statement}
 use Rattle.bootfw.proofs.ibft_rebuild.Tie as tie
 
+-- the place of what a rebuild answers fits its bits
+placed : (t : List ℕ) (n : ℕ) (built : Built) → ((i : ℕ) → byte t i < 256) → built ≡ rebuildAnswer t n → built .refusal .place < 2 ^ 24
+placed t n built bytes is = omega (arith, rebuild-placed t n bytes, ap (λ (b : Built). b .refusal .place) is)
+
 packed-requires : tie.Need-packed-requires
 packed-requires c κs =
-    let a = c .before .before .before .before .before .before .before .args in
     let bytes = c .before .before .before .before .before .before .shared-slice-known .given in
-    let is = c .before .before .before .rebuild .ensures .answer-is in
-    omega (
-      arith,
-      rebuild-placed (a .table .now) (length (a .room .now)) (λ i. omega (arith, bytes i)),
-      ap (λ (b : Built). b .refusal .place) is,
-    )
+    omega (arith, placed _ _ _ (λ i. omega (arith, bytes i)) (c .before .before .before .rebuild .ensures .answer-is))
 
 returns : tie.Need-returns
 returns c =
