@@ -12,10 +12,10 @@ use Prim.Native.Nat.{ℕ, zero, suc, _+_, _≤_, _<_}
 use native.Mathlib.Omega.{arith}
 use lib.ListN.{length}
 use Rattle.octets.specs.Counting.{sumTo}
-use Rattle.string_heap.specs.Stored.{Entry, every, stored, ofStored, size, heapSize}
+use Rattle.string_heap.specs.Stored.{Entry, stored, ofStored, size, heapSize}
 use Rattle.string_heap.specs.Starts.{align8, endTo}
 use Rattle.string_heap.proofs.Intervals.{sumTo-le}
-use Rattle.ibft_table.specs.Layout.{kindOf, slotCount, entryCount, namedCount, mostWords, controlEnd, builtSlot, stringOf}
+use Rattle.ibft_table.specs.Layout.{kindOf, slotCount, entryCount, namedCount, mostWords, controlEnd, builtSlot, stringOf, mayShare}
 use Rattle.ibft_table.specs.Record.{Content}
 use Rattle.octets.proofs.CountLaws.{count-le}
 use Rattle.ibft_laws.proofs.LeastLaws.{endTo-base}
@@ -25,17 +25,21 @@ use Rattle.build_rules.proofs.GoodContent.{Good}
 
 -- ---- structures
 
-pub endTo-most : (on : ℕ → Bool) (size : ℕ → ℕ) (base k : ℕ) → endTo on size base k ≤ endTo every size base k
+-- every structure is present
+abbrev all : ℕ → Bool
+all k = true
+
+pub endTo-most : (on : ℕ → Bool) (size : ℕ → ℕ) (base k : ℕ) → endTo on size base k ≤ endTo all size base k
 unfolding endTo
 endTo-most on size base zero = omega arith
 endTo-most on size base (suc k) = go (on k) (endTo-most on size base k)
   where
-    go : (b : Bool) → endTo on size base k ≤ endTo every size base k
-        → cond b (align8 (endTo on size base k) + size k) (endTo on size base k) ≤ align8 (endTo every size base k) + size k
+    go : (b : Bool) → endTo on size base k ≤ endTo all size base k
+        → cond b (align8 (endTo on size base k) + size k) (endTo on size base k) ≤ align8 (endTo all size base k) + size k
     go true h = omega arith
     go false h = omega arith
 
-all-end : endTo every (λ (i : ℕ). (kindOf (builtSlot i)) .length) (controlEnd mostWords) slotCount ≡ 1454
+all-end : endTo all (λ (i : ℕ). (kindOf (builtSlot i)) .length) (controlEnd mostWords) slotCount ≡ 1454
 unfolding computing
 all-end = refl
 
@@ -52,7 +56,7 @@ heap-start-bound c =
       arith,
       all-end,
       endTo-most (λ (i : ℕ). isPresent (c .structure (builtSlot i))) size (controlEnd (extrasBuilt c)) slotCount,
-      endTo-base every size (controlEnd (extrasBuilt c)) (controlEnd mostWords) slotCount base,
+      endTo-base all size (controlEnd (extrasBuilt c)) (controlEnd mostWords) slotCount base,
     )
 
 -- ---- entries
@@ -73,9 +77,9 @@ unfolding computing
 all-longest = refl
 
 module _ (c : Content) (good : Good c) where
-  pub heap-size-bound : heapSize entryCount every (c .entry) ≤ 12256
+  pub heap-size-bound : heapSize entryCount mayShare (c .entry) ≤ 12256
   heap-size-bound =
-      omega (arith, all-longest, heapSize-most entryCount every (c .entry) (λ (n : ℕ). (stringOf n) .longest) (λ n a h is. good .entry n a h is .not-long))
+      omega (arith, all-longest, heapSize-most entryCount mayShare (c .entry) (λ (n : ℕ). (stringOf n) .longest) (λ n a h is. good .entry n a h is .not-long))
 
   pub length-bound : lengthBuilt c ≤ 13710
   unfolding lengthBuilt

@@ -25,11 +25,11 @@ use Rattle.octets.proofs.TestLaws.{same-differs, unlike-differs}
 use Rattle.octets.proofs.CountingLaws.{clash}
 use Rattle.octets.proofs.LiesLaws.{Lies, lies-front, lies-within, lies-middle, lies-part}
 use Rattle.octets.proofs.WordLaws.{word16-back, le32-back}
-use Rattle.string_heap.specs.Stored.{Entry, every, heapSize}
+use Rattle.string_heap.specs.Stored.{Entry, heapSize}
 use Rattle.string_heap.specs.Places.{len, heapTo, place}
 use Rattle.string_heap.proofs.TailsLaws.{Stands, stands-lies, stands-part}
 use Rattle.string_heap.proofs.HostLaws.{heap-length, placed}
-use Rattle.ibft_table.specs.Layout.{Kind, control, kindOf, firstEntry, slotCount, entryCount, namedCount, extraNics, extraTargets, controlEnd, slotAt, builtSlot, controlAt, extensionsAt, wordAt, chapAt, ownerOf}
+use Rattle.ibft_table.specs.Layout.{Kind, control, kindOf, firstEntry, slotCount, entryCount, namedCount, extraNics, extraTargets, controlEnd, slotAt, builtSlot, controlAt, extensionsAt, wordAt, chapAt, ownerOf, mayShare}
 use Rattle.ibft_table.specs.Table.{lengthOf, controlLength, controlEndOf, extraWords, wordCount, startAt, usedAt, kindAt, endAt, startsOf, startIn, startOf, presentIn, present, endIn, endOf, heapOf, fieldIn, fieldOf, sizeIn, sizeOf, offsetIn, offsetOf, holdsIn, holdsEntry}
 use Rattle.ibft_table.proofs.SeatLaws.{named-at}
 use Rattle.ibft_laws.proofs.SeatLaws.{slot-kind}
@@ -462,11 +462,11 @@ module _ (c : Content) (good : Good c) (t : List ℕ) (front : Begins c t) where
       let above = heap-below t (heapStart c) (omega (arith, control-end, heap-start-least c)) word-inside in
       omega (arith, above, built-below slotCount (omega arith))
 
-  heap-bytes-back : Lies t (heapStart c) (heapTo entryCount every (c .entry) entryCount)
+  heap-bytes-back : Lies t (heapStart c) (heapTo entryCount mayShare (c .entry) entryCount)
   unfolding lengthBuilt heapSize
   heap-bytes-back =
-      lies-back (heapStart c) (heapTo entryCount every (c .entry) entryCount) (omega (arith, heap-start-least c))
-      (omega (arith, heap-length entryCount every (c .entry) entryCount)) (heap-lies c good)
+      lies-back (heapStart c) (heapTo entryCount mayShare (c .entry) entryCount) (omega (arith, heap-start-least c))
+      (omega (arith, heap-length entryCount mayShare (c .entry) entryCount)) (heap-lies c good)
 
   -- ---- the strings
 
@@ -485,10 +485,10 @@ module _ (c : Content) (good : Good c) (t : List ℕ) (front : Begins c t) where
     unfolding lengthBuilt heapSize
     entry-stands =
         rw (offset-is c n a is)
-        (stands-lies t (heapTo entryCount every (c .entry) entryCount) (heapStart c) (heapSize entryCount every (c .entry)) (place entryCount every (c .entry) n a) a
-        (omega (arith, heap-length entryCount every (c .entry) entryCount))
+        (stands-lies t (heapTo entryCount mayShare (c .entry) entryCount) (heapStart c) (heapSize entryCount mayShare (c .entry)) (place entryCount mayShare (c .entry) n a) a
+        (omega (arith, heap-length entryCount mayShare (c .entry) entryCount))
         heap-bytes-back
-        (placed entryCount every (c .entry) n a h is))
+        (placed entryCount mayShare (c .entry) n a h is))
 
     pub entry-back : part t (offsetOf t n) (sizeOf t n) ≡ a
     entry-back =

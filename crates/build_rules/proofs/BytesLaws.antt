@@ -20,11 +20,11 @@ use Rattle.octets.specs.Octets.{le16, le32, zeros, sum, checksum}
 use Rattle.octets.proofs.LiesLaws.{Lies, lies-front, lies-last, lies-middle, lies-behind, lies-within, gather-length, gather-lies, gather-ends}
 use Rattle.octets.proofs.SumLaws.{checksum-sums}
 use Rattle.octets.proofs.WriteLaws.{length-zeros}
-use Rattle.string_heap.specs.Stored.{every, heapSize}
+use Rattle.string_heap.specs.Stored.{heapSize}
 use Rattle.string_heap.specs.Places.{heapTo}
 use Rattle.string_heap.specs.Starts.{align8}
 use Rattle.string_heap.proofs.HostLaws.{heap-length}
-use Rattle.ibft_table.specs.Layout.{kindOf, firstEntry, slotCount, entryCount, namedCount, mostWords, builtSlot, controlAt, controlEnd}
+use Rattle.ibft_table.specs.Layout.{kindOf, firstEntry, slotCount, entryCount, namedCount, mostWords, builtSlot, controlAt, controlEnd, mayShare}
 use Rattle.ibft_table.specs.Record.{Content, bodySize}
 use Rattle.ibft_laws.proofs.LayoutLaws.{slot-fits}
 use Rattle.build_rules.specs.Plan.{isPresent, extrasBuilt, endBuilt, turnOf, startBuilt, heapStart, lengthBuilt}
@@ -198,7 +198,7 @@ module _ (c : Content) (good : Good c) where
   -- ---- the whole
 
   heap : List ℕ
-  heap = heapTo entryCount every (c .entry) entryCount
+  heap = heapTo entryCount mayShare (c .entry) entryCount
 
   structures : List ℕ
   structures = gather (stretch c) 0 slotCount
@@ -222,7 +222,7 @@ module _ (c : Content) (good : Good c) where
         front-length,
         control-length c,
         structures-length,
-        heap-length entryCount every (c .entry) entryCount,
+        heap-length entryCount mayShare (c .entry) entryCount,
       )
 
   pub table-length : length (tableOf c) ≡ lengthBuilt c
@@ -233,12 +233,12 @@ module _ (c : Content) (good : Good c) where
 
   pub header-lies : Lies (bareTable c) 0 (headerBytes c)
   unfolding bareTable
-  header-lies = lies-front (headerBytes c) (controlBytes c ++ (gather (stretch c) 0 slotCount ++ heapTo entryCount every (c .entry) entryCount))
+  header-lies = lies-front (headerBytes c) (controlBytes c ++ (gather (stretch c) 0 slotCount ++ heapTo entryCount mayShare (c .entry) entryCount))
 
   pub control-lies : Lies (bareTable c) controlAt (controlBytes c)
   unfolding bareTable
   control-lies =
-      lies-middle (headerBytes c) (controlBytes c) (gather (stretch c) 0 slotCount ++ heapTo entryCount every (c .entry) entryCount) controlAt front-length
+      lies-middle (headerBytes c) (controlBytes c) (gather (stretch c) 0 slotCount ++ heapTo entryCount mayShare (c .entry) entryCount) controlAt front-length
 
   stretch-lies : (j : ℕ) → j < slotCount → Lies (bareTable c) (endBuilt c j) (stretch c j)
   unfolding bareTable structures heap
@@ -247,7 +247,7 @@ module _ (c : Content) (good : Good c) where
       (gather-lies (stretch c) (endBuilt c) (headerBytes c ++ controlBytes c) heap 0 slotCount (λ j l h. stretch-length j (omega arith))
       (omega (arith, length-append (headerBytes c) (controlBytes c), front-length, control-length c, end-first c)) j (omega arith) (omega arith))
 
-  pub heap-lies : Lies (bareTable c) (heapStart c) (heapTo entryCount every (c .entry) entryCount)
+  pub heap-lies : Lies (bareTable c) (heapStart c) (heapTo entryCount mayShare (c .entry) entryCount)
   unfolding bareTable structures heap
   heap-lies =
       let place : 48 + (18 + 2 * extrasBuilt c + length structures) ≡ heapStart c = omega (arith, structures-length) in

@@ -7,10 +7,9 @@ use mathlib.Core.Bool.{cond}
 use lib.ListN.{length, set}
 use Rattle.octets.specs.Counting.{gather}
 use Rattle.octets.specs.Octets.{le16, le32, zeros, checksum}
-use Rattle.string_heap.specs.Stored.{every}
 use Rattle.string_heap.specs.Places.{len, heapTo}
 use Rattle.string_heap.specs.Starts.{align8}
-use Rattle.ibft_table.specs.Layout.{Kind, control, kindOf, firstEntry, slotCount, entryCount, namedCount, mostWords, builtSlot}
+use Rattle.ibft_table.specs.Layout.{Kind, control, kindOf, firstEntry, slotCount, entryCount, namedCount, mostWords, builtSlot, mayShare}
 use Rattle.ibft_table.specs.Shapes.{shapeOf, shapeStart}
 use Rattle.ibft_table.specs.Record.{Content}
 use Rattle.build_rules.specs.Plan.{isPresent, extrasBuilt, endBuilt, startBuilt, lengthBuilt, offsetBuilt}
@@ -58,7 +57,7 @@ stretch c j = stretchAs c j (c .structure (builtSlot j))
 -- the table before its checksum is set
 unfoldable pub bareTable : Content → List ℕ
 bareTable c =
-    headerBytes c ++ (controlBytes c ++ (gather (stretch c) 0 slotCount ++ heapTo entryCount every (c .entry) entryCount))
+    headerBytes c ++ (controlBytes c ++ (gather (stretch c) 0 slotCount ++ heapTo entryCount mayShare (c .entry) entryCount))
 
 unfoldable pub tableOf : Content → List ℕ
 tableOf c = set (bareTable c) 9 (checksum (bareTable c) 9)

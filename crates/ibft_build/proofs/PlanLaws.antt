@@ -11,8 +11,8 @@ use lib.ListN.{length, getD}
 use Rattle.octets.proofs.CountingLaws.{length-tabulate}
 use Rattle.octets.specs.Counting.{sumTo}
 use Rattle.octets.proofs.CutLaws.{sumTo-cut}
-use Rattle.string_heap.specs.Stored.{every, heapSize}
-use Rattle.ibft_table.specs.Layout.{slotCount, entryCount, controlEnd}
+use Rattle.string_heap.specs.Stored.{heapSize}
+use Rattle.ibft_table.specs.Layout.{slotCount, entryCount, controlEnd, mayShare}
 use Rattle.build_rules.specs.RecordRange.{contentGiven}
 use Rattle.build_rules.specs.Plan.{heapStart, lengthBuilt, offsetBuilt}
 use Rattle.ibft_build.specs.Planning.{entryLimit, extrasGiven, fieldGiven, entryFields, entriesGiven, endGiven, wantedSizes, sizeGiven, heapSizes, entryOffsets, structureEnds, Planned}
@@ -28,7 +28,7 @@ module _ (r s : List ℕ) where
   heap-is ends are = ends-at r ends are slotCount (omega arith) ∙ sym (end-built r s slotCount)
 
   -- entries from the limit on take nothing
-  heap-sum : sumTo (entryLimit r) (sizeGiven r s) ≡ heapSize entryCount every (entriesGiven r s)
+  heap-sum : sumTo (entryLimit r) (sizeGiven r s) ≡ heapSize entryCount mayShare (entriesGiven r s)
   unfolding heapSize sizeGiven
   heap-sum = sym (sumTo-cut (entryLimit r) entryCount (sizeGiven r s) (entry-limit-most r) (λ k l h. size-past r s k l))
 
@@ -49,7 +49,7 @@ module _ (r s ends fields wanted sizes offsets : List ℕ) (size : ℕ) (plan : 
     -- the heap's start and end
     pub end : getD ends slotCount 0 ≡ endGiven r slotCount
     pub start : getD ends slotCount 0 ≡ heapStart (contentGiven r s)
-    pub whole : getD ends slotCount 0 + heapSize entryCount every (entriesGiven r s) ≡ size
+    pub whole : getD ends slotCount 0 + heapSize entryCount mayShare (entriesGiven r s) ≡ size
     pub low : controlEnd (extrasGiven r) ≤ getD ends slotCount 0
     pub high : getD ends slotCount 0 ≤ 1454
 
@@ -65,7 +65,7 @@ module _ (r s ends fields wanted sizes offsets : List ℕ) (size : ℕ) (plan : 
         offsets-count = ap (λ (l : List ℕ). length l) (plan .offsets-are) ∙ length-tabulate (offsetBuilt (contentGiven r s)) 0 entryCount;
         end = at;
         start = start;
-        whole = ap (λ (n : ℕ). n + heapSize entryCount every (entriesGiven r s)) start ∙ sym (plan .length-is);
+        whole = ap (λ (n : ℕ). n + heapSize entryCount mayShare (entriesGiven r s)) start ∙ sym (plan .length-is);
         low = omega (arith, end-first r, end-grows r 0 slotCount (omega arith));
         high = ends-bound r ends (plan .ends-are) slotCount (omega arith);
       }

@@ -17,11 +17,11 @@ use Rattle.octets.specs.Octets.{byte, part, le16, zeros, checksum, write}
 use Rattle.octets.proofs.CountingLaws.{gather-same, getD-tabulate}
 use Rattle.octets.proofs.ReadLaws.{part-length}
 use Rattle.octets.proofs.WriteLaws.{length-zeros, length-written, set-write, write-front}
-use Rattle.string_heap.specs.Stored.{every, heapSize}
+use Rattle.string_heap.specs.Stored.{heapSize}
 use Rattle.string_heap.specs.Places.{len, heapTo}
 use Rattle.string_heap.specs.Starts.{align8}
 use Rattle.string_heap.proofs.HostLaws.{heap-length}
-use Rattle.ibft_table.specs.Layout.{kindOf, firstEntry, slotCount, namedCount, mostWords, entryCount, controlEnd, builtSlot}
+use Rattle.ibft_table.specs.Layout.{kindOf, firstEntry, slotCount, namedCount, mostWords, entryCount, controlEnd, builtSlot, mayShare}
 use Rattle.ibft_table.specs.Record.{Content, bodySize, shownIf}
 use Rattle.ibft_laws.proofs.LayoutLaws.{built-fits}
 use Rattle.build_rules.specs.RecordRange.{imageAt, structureGiven, indexGiven, entryGiven, lengthGiven, startGiven, bytesGiven, contentGiven}
@@ -131,7 +131,7 @@ module _ (r s : List ℕ) (sound : Readable r s) (ends wanted offsets : List ℕ
   structures = gather (stretchWith r ends wanted offsets) 0 slotCount
 
   heap : List ℕ
-  heap = heapTo entryCount every (entriesGiven r s) entryCount
+  heap = heapTo entryCount mayShare (entriesGiven r s) entryCount
 
   front-length : length front ≡ controlEnd (extrasGiven r)
   unfolding front
@@ -149,7 +149,7 @@ module _ (r s : List ℕ) (sound : Readable r s) (ends wanted offsets : List ℕ
 
   heap-size : heapStart (contentGiven r s) + length heap ≡ lengthBuilt (contentGiven r s)
   unfolding lengthBuilt heap heapSize
-  heap-size = ap (λ (n : ℕ). heapStart (contentGiven r s) + n) (heap-length entryCount every (entriesGiven r s) entryCount)
+  heap-size = ap (λ (n : ℕ). heapStart (contentGiven r s) + n) (heap-length entryCount mayShare (entriesGiven r s) entryCount)
 
   parts : front ++ (structures ++ heap) ≡ bareTable (contentGiven r s)
   unfolding front structures heap bareTable
@@ -166,7 +166,7 @@ module _ (r s : List ℕ) (sound : Readable r s) (ends wanted offsets : List ℕ
   -- t is the room, u the room with the front, v with the structures, ys the heap's stretch that was lent
   pub bare-is : (t u v ys : List ℕ) (start end size : ℕ) → lengthBuilt (contentGiven r s) ≤ length t → size ≡ lengthBuilt (contentGiven r s)
       → u ≡ write t 0 (headerWith r size ++ controlWith r) → v ≡ write u (controlEnd (extrasGiven r)) (gather (stretchWith r ends wanted offsets) 0 slotCount)
-      → start ≡ heapStart (contentGiven r s) → end ≡ size → ys ≡ heapTo entryCount every (entriesGiven r s) entryCount
+      → start ≡ heapStart (contentGiven r s) → end ≡ size → ys ≡ heapTo entryCount mayShare (entriesGiven r s) entryCount
       → putMid start (end - start) v ys ≡ write t 0 (bareTable (contentGiven r s))
   unfolding front structures heap
   bare-is t u v ys start end size fits es eu ev estart eend ey =

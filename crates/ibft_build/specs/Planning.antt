@@ -2,14 +2,15 @@
 -- Assumes nothing: these are definitions.
 use mathlib.Core.Path.{_≡_}
 use mathlib.Core.List.{List}
-use mathlib.Core.Bool.{true, cond}
+use mathlib.Core.Bool.{Bool, true, cond, _&&_}
 use Prim.Native.Nat.{ℕ, _+_, min, _≤_, _<_}
 use lib.ListN.{length}
 use lib.Dec.{eqb, ltb}
 use Rattle.octets.specs.Counting.{count, tabulate}
-use Rattle.string_heap.specs.Stored.{Entry, every, size}
+use Rattle.string_heap.specs.Stored.{Entry, stored, size}
+use Rattle.string_heap.specs.Places.{endsWith}
 use Rattle.string_heap.specs.Starts.{align8, endTo}
-use Rattle.ibft_table.specs.Layout.{kindOf, slotCount, namedCount, extraMost, extraNics, extraTargets, mostWords, entryCount, ownerOf, stringOf, firstEntry, controlEnd, builtSlot}
+use Rattle.ibft_table.specs.Layout.{kindOf, slotCount, namedCount, extraMost, extraNics, extraTargets, mostWords, entryCount, ownerOf, stringOf, firstEntry, controlEnd, builtSlot, mayShare}
 use Rattle.build_rules.specs.RecordRange.{baseSize, nicsGiven, targetsGiven, imageAt, structureGiven, entryGiven, lengthGiven, startGiven, contentGiven}
 use Rattle.build_rules.specs.Plan.{turnOf, lengthBuilt, offsetBuilt}
 use Rattle.build_rules.specs.Build.{answerOf, roomAfter}
@@ -62,10 +63,14 @@ wantedSizes r = tabulate (wantedGiven r) 0 entryCount
 
 -- what each entry takes in the heap
 unfoldable pub sizeGiven : List ℕ → List ℕ → ℕ → ℕ
-sizeGiven r s n = size entryCount every (entriesGiven r s) n
+sizeGiven r s n = size entryCount mayShare (entriesGiven r s) n
 
 unfoldable pub heapSizes : List ℕ → List ℕ → List ℕ
 heapSizes r s = tabulate (sizeGiven r s) 0 entryCount
+
+-- whether entry j can hold the bytes a of an entry that is not stored: it is stored, ends with them, and may share
+abbrev pub canHold : List ℕ → List ℕ → List ℕ → ℕ → Bool
+canHold r s a j = stored entryCount mayShare (entriesGiven r s) j && endsWith a (entriesGiven r s j) && mayShare j
 
 -- where each entry stands
 unfoldable pub entryOffsets : List ℕ → List ℕ → List ℕ

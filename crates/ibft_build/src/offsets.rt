@@ -1,20 +1,21 @@
 // Where entries stand: a stored one behind those stored before it, any other at the tail of its host, the lowest-numbered stored
-// entry that ends with it. What each entry takes in the heap is lent: 0 of one that is not stored.
+// entry that ends with it and is no secret. What each entry takes in the heap is lent: 0 of one that is not stored.
 use crate::stored::ends_with;
 use crate::stored::start_at;
 use ibft_table::layout::ENTRY_COUNT;
+use ibft_table::layout::may_share;
 ghost use mathlib.Core.Path.{_≡_};
-ghost use mathlib.Core.Bool.{true, _&&_};
+ghost use mathlib.Core.Bool.{true, false};
 ghost use Prim.Native.Nat.{ℕ, _+_, _*_, _≤_, _<_};
 ghost use lib.ListN.{length, getD};
 ghost use Rattle.octets.specs.Counting.{sumTo};
 ghost use Rattle.octets.specs.Octets.{part};
-ghost use Rattle.string_heap.specs.Stored.{every, stored};
-ghost use Rattle.string_heap.specs.Places.{endsWith, host, place};
-ghost use Rattle.ibft_table.specs.Layout.{entryCount};
+ghost use Rattle.string_heap.specs.Stored.{stored};
+ghost use Rattle.string_heap.specs.Places.{host, place};
+ghost use Rattle.ibft_table.specs.Layout.{entryCount, mayShare};
 ghost use Rattle.build_rules.specs.RecordRange.{entryGiven, bytesGiven, contentGiven};
 ghost use Rattle.build_rules.specs.Plan.{heapStart, offsetBuilt};
-ghost use Rattle.ibft_build.specs.Planning.{Readable, entryLimit, entryFields, wantedSizes, entriesGiven, heapSizes, entryOffsets};
+ghost use Rattle.ibft_build.specs.Planning.{Readable, entryLimit, entryFields, wantedSizes, entriesGiven, heapSizes, canHold, entryOffsets};
 
 // What the entries below k take in the heap.
 pub(crate) fn sum_below(sizes: &[u16], k: u8) -> u32
@@ -30,7 +31,7 @@ pub(crate) fn sum_below(sizes: &[u16], k: u8) -> u32
     sum
 }
 
-// Is entry j stored, and does it end with the `size` bytes from `start` on?
+// Is entry j stored and no secret, and does it end with the `size` bytes from `start` on?
 fn is_host(
     range: &[u8],
     strings: &[u8],
@@ -41,10 +42,13 @@ fn is_host(
     j: u8,
 ) -> bool
     requires { ⌜ Readable (now range) (now strings) × (now fields ≡ entryFields (now range)) × (now sizes ≡ heapSizes (now range) (now strings)) × (start + size ≤ length (now strings)) × (j < entryLimit (now range)) ⌝ }
-    ensures { λ r. ⌜ r ≡ (stored entryCount every (entriesGiven (now (range .entry)) (now (strings .entry))) j && endsWith (part (now (strings .entry)) start size) (entriesGiven (now (range .entry)) (now (strings .entry)) j)) ⌝ }
+    ensures { λ r. ⌜ r ≡ canHold (now (range .entry)) (now (strings .entry)) (part (now (strings .entry)) start size) j ⌝ }
 {
     let other = sizes[j as usize] as usize;
     if other <= size {
+        return false;
+    }
+    if !may_share(j as u16) {
         return false;
     }
     ends_with(
@@ -56,7 +60,7 @@ fn is_host(
     )
 }
 
-// The host of entry i, which is present.
+// The host of entry i, which is present and not stored.
 fn host_of(
     range: &[u8],
     strings: &[u8],
@@ -66,8 +70,8 @@ fn host_of(
     limit: u8,
     i: u8,
 ) -> u8
-    requires { ⌜ Readable (now range) (now strings) × (now wanted ≡ wantedSizes (now range)) × (now fields ≡ entryFields (now range)) × (now sizes ≡ heapSizes (now range) (now strings)) × (limit ≡ entryLimit (now range)) × (i < entryLimit (now range)) × (entryGiven (now range) i ≡ true) ⌝ }
-    ensures { λ r. ⌜ r ≡ host entryCount every (entriesGiven (now (range .entry)) (now (strings .entry))) i (bytesGiven (now (range .entry)) (now (strings .entry)) i) ⌝ }
+    requires { ⌜ Readable (now range) (now strings) × (now wanted ≡ wantedSizes (now range)) × (now fields ≡ entryFields (now range)) × (now sizes ≡ heapSizes (now range) (now strings)) × (limit ≡ entryLimit (now range)) × (i < entryLimit (now range)) × (entryGiven (now range) i ≡ true) × (stored entryCount mayShare (entriesGiven (now range) (now strings)) i ≡ false) ⌝ }
+    ensures { λ r. ⌜ r ≡ host entryCount mayShare (entriesGiven (now (range .entry)) (now (strings .entry))) i (bytesGiven (now (range .entry)) (now (strings .entry)) i) ⌝ }
 {
     let start = start_at(range, fields, i) as usize;
     let size = wanted[i as usize] as usize - 1;
@@ -92,7 +96,7 @@ fn place_of(
     i: u8,
 ) -> u32
     requires { ⌜ Readable (now range) (now strings) × (now wanted ≡ wantedSizes (now range)) × (now fields ≡ entryFields (now range)) × (now sizes ≡ heapSizes (now range) (now strings)) × (limit ≡ entryLimit (now range)) × (i < entryLimit (now range)) × (entryGiven (now range) i ≡ true) ⌝ }
-    ensures { λ r. ⌜ r ≡ place entryCount every (entriesGiven (now (range .entry)) (now (strings .entry))) i (bytesGiven (now (range .entry)) (now (strings .entry)) i) ⌝ }
+    ensures { λ r. ⌜ r ≡ place entryCount mayShare (entriesGiven (now (range .entry)) (now (strings .entry))) i (bytesGiven (now (range .entry)) (now (strings .entry)) i) ⌝ }
 {
     if sizes[i as usize] != 0 {
         return sum_below(sizes, i);

@@ -1,5 +1,6 @@
-// Which entries are stored, and what they take in the heap. What each entry would take is read off the range once, and lent
-// to the tests: a missing entry wants 0, so that one comparison passes over missing and shorter entries alike.
+// Which entries are stored, and what they take in the heap: a secret always, with its own bytes; any other unless it is a tail of
+// one that is no secret. What each entry would take is read off the range once, and lent to the tests: a missing entry wants 0, so
+// that one comparison passes over missing and shorter entries alike.
 use crate::record::entry_given;
 use crate::record::entry_length;
 use crate::record::field_at;
@@ -7,6 +8,7 @@ use crate::record::named_field;
 use crate::record::named_given;
 use ibft_table::layout::ENTRY_COUNT;
 use ibft_table::layout::NAMED_ENTRIES;
+use ibft_table::layout::may_share;
 use octets::read::u16_at;
 use string_heap::tail::is_tail;
 ghost use mathlib.Core.Path.{_≡_};
@@ -15,9 +17,9 @@ ghost use Prim.Native.Nat.{ℕ, _+_, _≤_, _<_};
 ghost use lib.ListN.{length};
 ghost use Rattle.octets.specs.Counting.{any};
 ghost use Rattle.octets.specs.Octets.{part};
-ghost use Rattle.ibft_table.specs.Layout.{entryCount, namedEntries};
+ghost use Rattle.ibft_table.specs.Layout.{entryCount, namedEntries, mayShare};
 ghost use Rattle.string_heap.specs.Tails.{isTail};
-ghost use Rattle.string_heap.specs.Stored.{every, coveredBy, stored};
+ghost use Rattle.string_heap.specs.Stored.{coveredBy, stored};
 ghost use Rattle.build_rules.specs.RecordRange.{startGiven};
 ghost use Rattle.ibft_build.specs.Planning.{Short, Readable, entryLimit, entryFields, entriesGiven, wantedGiven, wantedSizes, sizeGiven, heapSizes};
 
@@ -123,7 +125,7 @@ fn begins_differently(
 }
 
 // Is it needless, for entry j, to store entry i, whose bytes are the `size` from `start` on? The bytes are compared only where
-// entry j is longer, or as long with a lower number.
+// entry j is longer, or as long with a lower number, and is no secret.
 fn is_covered_by(
     range: &[u8],
     strings: &[u8],
@@ -135,7 +137,7 @@ fn is_covered_by(
     j: u8,
 ) -> bool
     requires { ⌜ Readable (now range) (now strings) × (now wanted ≡ wantedSizes (now range)) × (now fields ≡ entryFields (now range)) × (start + size ≤ length (now strings)) × (j < entryLimit (now range)) ⌝ }
-    ensures { λ r. ⌜ r ≡ coveredBy every i (part (now (strings .entry)) start size) j (entriesGiven (now (range .entry)) (now (strings .entry)) j) ⌝ }
+    ensures { λ r. ⌜ r ≡ coveredBy mayShare i (part (now (strings .entry)) start size) j (entriesGiven (now (range .entry)) (now (strings .entry)) j) ⌝ }
 {
     let other = wanted[j as usize] as usize;
     if other <= size {
@@ -145,6 +147,9 @@ fn is_covered_by(
         if i <= j {
             return false;
         }
+    }
+    if !may_share(j as u16) {
+        return false;
     }
     let other_start = start_at(range, fields, j) as usize;
     if begins_differently(strings, start, size, other_start, other - 1) {
@@ -165,7 +170,7 @@ fn is_covered(
     size: usize,
 ) -> bool
     requires { ⌜ Readable (now range) (now strings) × (now wanted ≡ wantedSizes (now range)) × (now fields ≡ entryFields (now range)) × (limit ≡ entryLimit (now range)) × (start + size ≤ length (now strings)) ⌝ }
-    ensures { λ r. ⌜ r ≡ any entryCount (λ (j : ℕ). coveredBy every i (part (now (strings .entry)) start size) j (entriesGiven (now (range .entry)) (now (strings .entry)) j)) ⌝ }
+    ensures { λ r. ⌜ r ≡ any entryCount (λ (j : ℕ). coveredBy mayShare i (part (now (strings .entry)) start size) j (entriesGiven (now (range .entry)) (now (strings .entry)) j)) ⌝ }
 {
     let mut j: u8 = 0;
     while j < limit {
@@ -180,11 +185,14 @@ fn is_covered(
 // Is entry i stored?
 fn is_stored(range: &[u8], strings: &[u8], wanted: &[u16], fields: &[u16], limit: u8, i: u8) -> bool
     requires { ⌜ Readable (now range) (now strings) × (now wanted ≡ wantedSizes (now range)) × (now fields ≡ entryFields (now range)) × (limit ≡ entryLimit (now range)) × (i < entryLimit (now range)) ⌝ }
-    ensures { λ r. ⌜ r ≡ stored entryCount every (entriesGiven (now (range .entry)) (now (strings .entry))) i ⌝ }
+    ensures { λ r. ⌜ r ≡ stored entryCount mayShare (entriesGiven (now (range .entry)) (now (strings .entry))) i ⌝ }
 {
     let size = wanted[i as usize] as usize;
     if size == 0 {
         return false;
+    }
+    if !may_share(i as u16) {
+        return true;
     }
     !is_covered(
         range,

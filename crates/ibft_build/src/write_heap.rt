@@ -7,9 +7,9 @@ ghost use mathlib.Core.Path.{_≡_};
 ghost use Prim.Native.Nat.{_+_, _≤_, _<_};
 ghost use lib.ListN.{length};
 ghost use Rattle.octets.specs.Octets.{write};
-ghost use Rattle.string_heap.specs.Stored.{every, stored, heapSize};
+ghost use Rattle.string_heap.specs.Stored.{stored, heapSize};
 ghost use Rattle.string_heap.specs.Places.{bytesOf, heapTo};
-ghost use Rattle.ibft_table.specs.Layout.{entryCount};
+ghost use Rattle.ibft_table.specs.Layout.{entryCount, mayShare};
 ghost use Rattle.ibft_build.specs.Planning.{Readable, entryLimit, entryFields, entriesGiven, heapSizes};
 
 // Writes entry n with its zero, where it is stored.
@@ -23,7 +23,7 @@ fn put_entry(
     n: u8,
 )
     requires { ⌜ (at ≤ 4000000) × Readable (now range) (now strings) × (now fields ≡ entryFields (now range)) × (now sizes ≡ heapSizes (now range) (now strings)) × (n < entryLimit (now range)) ⌝ }
-    ensures { λ _. ⌜ now (heap .exit) ≡ write (now (heap .entry)) at (bytesOf (entriesGiven (now (range .entry)) (now (strings .entry)) n) (stored entryCount every (entriesGiven (now (range .entry)) (now (strings .entry))) n)) ⌝ }
+    ensures { λ _. ⌜ now (heap .exit) ≡ write (now (heap .entry)) at (bytesOf (entriesGiven (now (range .entry)) (now (strings .entry)) n) (stored entryCount mayShare (entriesGiven (now (range .entry)) (now (strings .entry))) n)) ⌝ }
 {
     let size = sizes[n as usize] as usize;
     if size != 0 {
@@ -42,8 +42,8 @@ pub(crate) fn put_heap(
     sizes: &[u16],
     limit: u8,
 )
-    requires { ⌜ Readable (now range) (now strings) × (now fields ≡ entryFields (now range)) × (limit ≡ entryLimit (now range)) × (now sizes ≡ heapSizes (now range) (now strings)) × (length (now heap) ≡ heapSize entryCount every (entriesGiven (now range) (now strings))) ⌝ }
-    ensures { λ _. ⌜ now (heap .exit) ≡ heapTo entryCount every (entriesGiven (now (range .entry)) (now (strings .entry))) entryCount ⌝ }
+    requires { ⌜ Readable (now range) (now strings) × (now fields ≡ entryFields (now range)) × (limit ≡ entryLimit (now range)) × (now sizes ≡ heapSizes (now range) (now strings)) × (length (now heap) ≡ heapSize entryCount mayShare (entriesGiven (now range) (now strings))) ⌝ }
+    ensures { λ _. ⌜ now (heap .exit) ≡ heapTo entryCount mayShare (entriesGiven (now (range .entry)) (now (strings .entry))) entryCount ⌝ }
 {
     let mut at: usize = 0;
     let mut n: u8 = 0;

@@ -1,15 +1,16 @@
--- No accepted table that keeps the built order is shorter than the build's. Its structures, in that order, each behind the one
--- before and at a multiple of 8, end no earlier than the build's do; its entries, which hold no zero byte, take at least what
--- the storing rule takes.
+-- No accepted table that keeps the built order and gives secrets their own bytes is shorter than the build's. Its structures, in that
+-- order, each behind the one before and at a multiple of 8, end no earlier than the build's do; its entries, which hold no zero byte,
+-- take at least what the storing rule takes.
 --     endTo-same       where structures end depends on the slots below only
 --     starts-bound     the heap starts no earlier than the build's
 --     content-stands   the entries that the record lists stand in the heap
+--     content-apart    those of which one may not share, apart
 --     heap-bound       the heap is no smaller than the build's
 --     least-length     so Length is no less
 --     least-record     and so for every table that reads as a record
 -- Assumes nothing.
 use mathlib.Core.Path.{_≡_, refl, sym, ap, ap₂, _∙_, subst}
-use mathlib.Core.Logic.{⊎-elim}
+use mathlib.Core.Logic.{inl, inr, ⊎-elim}
 use mathlib.Core.Bool.{Bool, true, false, cond, _&&_}
 use mathlib.Core.Option.{Option, none, some}
 use mathlib.Core.List.{List}
@@ -17,27 +18,30 @@ use Prim.Native.Nat.{ℕ, zero, suc, _+_, _-_, _≤_, _<_}
 use native.Mathlib.Omega.{arith}
 use borrow.Author.Tests.{ltb-true, lt-ltb}
 use lib.Dec.{ltb}
-use Rattle.octets.proofs.CountingLaws.{clash}
+use lib.ListN.{length}
 use Rattle.octets.specs.Counting.{count}
-use Rattle.string_heap.specs.Stored.{Entry, every, heapSize}
+use Rattle.string_heap.specs.Stored.{Entry, heapSize}
 use Rattle.string_heap.specs.Starts.{align8, endTo}
 use Rattle.string_heap.proofs.TailsLaws.{Stands, Clean}
+use Rattle.string_heap.proofs.Intervals.{Apart}
 use Rattle.string_heap.proofs.StoredLaws.{least-heap}
 use Rattle.string_heap.proofs.StartsLaws.{starts-least}
-use Rattle.ibft_table.specs.Layout.{slotCount, entryCount, namedCount, mostWords, kindOf, builtSlot, controlEnd}
-use Rattle.ibft_table.specs.Table.{lengthOf, controlEndOf, extraWords, startsOf, startOf, present, endIn, heapOf, offsetOf}
+use Rattle.ibft_table.specs.Layout.{slotCount, entryCount, namedCount, mostWords, kindOf, builtSlot, controlEnd, mayShare}
+use Rattle.ibft_table.specs.Table.{lengthOf, controlEndOf, extraWords, startsOf, startOf, present, endIn, heapOf, sizeOf, offsetOf}
 use Rattle.ibft_table.specs.Check.{checkOf}
 use Rattle.ibft_table.specs.Record.{Content, listed, shownIf, contentIn, contentOf, recordOf}
 use Rattle.ibft_table.specs.declared.verdict.Verdict.the-variants.{Accepted}
 use Rattle.ibft_table.specs.Order.{keepsOrder}
+use Rattle.ibft_table.specs.Secrets.{secretsApart}
 use Rattle.octets.proofs.TestLaws.{and-both}
 use Rattle.ibft_laws.proofs.LayoutLaws.{built-fits}
 use Rattle.ibft_table.proofs.CheckLaws.{heap-after-control}
-use Rattle.ibft_laws.proofs.TableLaws.{facts, slot-kept, slots-disjoint, heap-end, heap-start-le, entry-stands}
+use Rattle.ibft_laws.proofs.TableLaws.{facts, slot-kept, slots-disjoint, heap-end, heap-start-le, entry-length, entry-stands}
 use Rattle.ibft_laws.proofs.SeatLaws.{extras-fit}
 use Rattle.octets.proofs.CountLaws.{count-same}
 use Rattle.ibft_laws.proofs.RecordLaws.{table-entry-some, listed-same}
 use Rattle.ibft_laws.proofs.OrderLaws.{order-starts}
+use Rattle.ibft_laws.proofs.SecretsLaws.{apart-entries}
 
 pub endTo-same : (on on′ : ℕ → Bool) (size : ℕ → ℕ) (base k : ℕ) → ((i : ℕ) → i < k → on i ≡ on′ i) → endTo on size base k ≡ endTo on′ size base k
 unfolding endTo
@@ -129,14 +133,24 @@ module _ (t : List ℕ) (ok : checkOf t ≡ Accepted) where
         let w = table-entry-some t n a (reads n h ∙ is) in
         subst (λ (b : List ℕ). Stands t (heapOf t) (lengthOf t) (offsetOf t n) b) (w .1) (entry-stands t ok n h (w .0))
 
-    module _ (clean : (n : ℕ) (a : List ℕ) → n < entryCount → e n ≡ some a → Clean a) where
-      pub heap-bound : heapSize entryCount every e ≤ lengthOf t - heapOf t
+    -- those of which one may not share, apart
+    pub content-apart : secretsApart t ≡ true → (i j : ℕ) (a b : List ℕ) → i < j → j < entryCount → e i ≡ some a → e j ≡ some b
+        → (mayShare i && mayShare j) ≡ false → Apart (offsetOf t i) (offsetOf t i + length a + 1) (offsetOf t j) (offsetOf t j + length b + 1)
+    content-apart apart i j a b l h p q alone =
+        let u = table-entry-some t i a (reads i (omega arith) ∙ p) in
+        let v = table-entry-some t j b (reads j h ∙ q) in
+        let la : length a ≡ sizeOf t i = ap length (sym (u .1)) ∙ entry-length t ok i (omega arith) (u .0) in
+        let lb : length b ≡ sizeOf t j = ap length (sym (v .1)) ∙ entry-length t ok j h (v .0) in
+        ⊎-elim (λ x. inl (omega (arith, x, la, lb))) (λ x. inr (omega (arith, x, la, lb))) (apart-entries t apart i j l h alone (u .0) (v .0))
+
+    module _ (clean : (n : ℕ) (a : List ℕ) → n < entryCount → e n ≡ some a → Clean a) (apart : secretsApart t ≡ true) where
+      pub heap-bound : heapSize entryCount mayShare e ≤ lengthOf t - heapOf t
       heap-bound =
-          least-heap entryCount every e t (heapOf t) (lengthOf t) (λ (n : ℕ). offsetOf t n) content-stands clean (λ i j a b l h p q z. clash refl z)
+          least-heap entryCount mayShare e t (heapOf t) (lengthOf t) (λ (n : ℕ). offsetOf t n) content-stands clean (content-apart apart)
 
       -- `on k` says whether slot k's structure is present: it is what the record says of it
       pub least-length : keepsOrder t ≡ true → (on : ℕ → Bool) → ((k : ℕ) → k < slotCount → present t k ≡ on k)
-          → endTo (λ (i : ℕ). on (builtSlot i)) sizeBuilt (controlEnd (extrasOf on)) slotCount + heapSize entryCount every e ≤ lengthOf t
+          → endTo (λ (i : ℕ). on (builtSlot i)) sizeBuilt (controlEnd (extrasOf on)) slotCount + heapSize entryCount mayShare e ≤ lengthOf t
       least-length keeps on is =
           omega (
             arith,
@@ -153,12 +167,12 @@ module _
     (on : Option (List ℕ) → Bool) (on-some : (a : List ℕ) → on (some a) ≡ true) (on-none : on none ≡ false)
     (clean : (n : ℕ) (a : List ℕ) → n < entryCount → (c .entry) n ≡ some a → Clean a)
   where
-    pub least-record : (t : List ℕ) → checkOf t ≡ Accepted → recordOf t ≡ listed c → keepsOrder t ≡ true
-        → endTo (λ (i : ℕ). on ((c .structure) (builtSlot i))) sizeBuilt (controlEnd (extrasOf (λ (k : ℕ). on ((c .structure) k)))) slotCount + heapSize entryCount every (c .entry) ≤ lengthOf t
+    pub least-record : (t : List ℕ) → checkOf t ≡ Accepted → recordOf t ≡ listed c → keepsOrder t ≡ true → secretsApart t ≡ true
+        → endTo (λ (i : ℕ). on ((c .structure) (builtSlot i))) sizeBuilt (controlEnd (extrasOf (λ (k : ℕ). on ((c .structure) k)))) slotCount + heapSize entryCount mayShare (c .entry) ≤ lengthOf t
     unfolding recordOf contentOf contentIn
-    least-record t ok reads keeps =
+    least-record t ok reads keeps apart =
         let same = listed-same (contentOf t) c reads in
-        least-length t ok (c .entry) (same .entries) clean keeps (λ (k : ℕ). on ((c .structure) k)) (λ k h. there (present t k) _ ∙ ap on (same .structures k h))
+        least-length t ok (c .entry) (same .entries) clean apart keeps (λ (k : ℕ). on ((c .structure) k)) (λ k h. there (present t k) _ ∙ ap on (same .structures k h))
       where
         there : (b : Bool) (x : List ℕ) → b ≡ on (shownIf b x)
         there true x = sym (on-some x)

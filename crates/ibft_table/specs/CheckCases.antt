@@ -11,23 +11,23 @@ use Rattle.ibft_table.specs.declared.verdict.Verdict.{Verdict}
 use Rattle.ibft_table.specs.declared.verdict.Verdict.the-variants.{Accepted, Refused}
 
 -- a table of n bytes in which nothing is present: header, Control, zero bytes
-blank : ℕ → List ℕ
+unfoldable pub blank : ℕ → List ℕ
 blank n =
     0x69 ∷ 0x42 ∷ 0x46 ∷ 0x54 ∷ (le32 n ++ (1 ∷ (zeros (controlAt - 9)
     ++ (control .id ∷ control .version ∷ (le16 (control .length) ++ zeros (n - controlAt - 4))))))
 
 -- slot k's structure put at `start`: its Control word, its first bytes, its flags
-place : ℕ → ℕ → ℕ → List ℕ → List ℕ
+unfoldable pub place : ℕ → ℕ → ℕ → List ℕ → List ℕ
 place k start flags t =
     write (write t (wordAt k) (le16 start)) start
     ((kindOf k) .id ∷ (kindOf k) .version ∷ (le16 ((kindOf k) .length) ++ (indexOf k ∷ flags ∷ [])))
 
 -- the words of a string: its length and its offset
-words : ℕ → ℕ → ℕ → List ℕ → List ℕ
+unfoldable pub words : ℕ → ℕ → ℕ → List ℕ → List ℕ
 words at size offset t = write t at (le16 size ++ le16 offset)
 
 -- the checksum set right
-sealed : List ℕ → List ℕ
+unfoldable pub sealed : List ℕ → List ℕ
 sealed t = write t 9 (checksum t 9 ∷ [])
 
 -- one byte changed, the sum mended

@@ -75,6 +75,12 @@ entry-hosts : tabulate (λ (n : ℕ). (stringOf n) .host) 0 namedEntries
 unfolding computing
 entry-hosts = refl
 
+-- the secrets: the third and the fifth string of a target
+entry-secrets : tabulate (λ (n : ℕ). (stringOf n) .secret) 0 namedEntries
+    ≡ false ∷ false ∷ false ∷ false ∷ true ∷ false ∷ true ∷ false ∷ false ∷ false ∷ true ∷ false ∷ true ∷ []
+unfolding computing
+entry-secrets = refl
+
 first-entries : tabulate firstEntry 0 slotCount
     ≡ 0 ∷ 1 ∷ 2 ∷ 7 ∷ 8 ∷ 13 ∷ 14 ∷ 15 ∷ 16 ∷ 17 ∷ 18 ∷ 19 ∷ 24 ∷ 29 ∷ 34 ∷ 39 ∷ 44 ∷ []
 unfolding computing
@@ -90,6 +96,10 @@ extra-slots = refl
 extra-words : tabulate (λ (n : ℕ). (stringOf n) .at) (namedEntries + 5) 6 ≡ 98 ∷ 34 ∷ 38 ∷ 42 ∷ 46 ∷ 50 ∷ []
 unfolding computing
 extra-words = refl
+
+extra-secrets : tabulate (λ (n : ℕ). (stringOf n) .secret) (namedEntries + 5) 6 ≡ false ∷ false ∷ false ∷ true ∷ false ∷ true ∷ []
+unfolding computing
+extra-secrets = refl
 
 -- NICs and targets by Index, and the build's order, by ID
 in-order : tabulate (λ (n : ℕ). (kindOf (nicSlot n)) .id) 0 8 ++ (tabulate (λ (n : ℕ). (kindOf (targetSlot n)) .id) 0 8 ++ tabulate (λ (j : ℕ). (kindOf (builtSlot j)) .id) 0 slotCount)

@@ -38,6 +38,7 @@ impl Initiator {
         at: 70,
         longest: LONGEST_NAME,
         host: false,
+        secret: false,
     };
 
     // What the layout knows of the kind.

@@ -8,7 +8,7 @@ ghost use mathlib.Core.Path.{_≡_};
 ghost use mathlib.Core.Bool.{false};
 ghost use Prim.Native.Nat.{_<_};
 ghost use lib.ListN.{getD};
-ghost use Rattle.ibft_table.specs.Layout.{namedEntries, kindOf, indexOf, target, ownerOf, stringOf, string};
+ghost use Rattle.ibft_table.specs.Layout.{namedEntries, kindOf, indexOf, target, ownerOf, stringOf, string, mayShare};
 ghost use Rattle.ibft_table.specs.Shapes.{shapeOf, shapeStart, stringShape};
 ghost use Rattle.ibft_table.specs.Table.{lengthOf};
 
@@ -110,11 +110,12 @@ pub fn index_of(k: u8) -> u8
 pub const LEAST_INDEX: u8 = 2;
 
 // A string of a structure: where its length stands (its offset stands 2 further), how long it may be, whether it is a
-// host name.
+// host name, whether it is a secret.
 pub struct StringShape {
     pub at: u16,
     pub longest: u16,
     pub host: bool,
+    pub secret: bool,
 }
 
 // The longest an iSCSI name may be (RFC 3720), and any other string.
@@ -217,6 +218,13 @@ pub fn string_of(n: u16) -> StringShape
         return target_string((n - TARGET_ENTRIES as u16) % 5);
     }
     Initiator::NAME
+}
+
+// May entry n, built, have bytes in common with another? A secret may not: who wipes it wipes nothing else.
+pub fn may_share(n: u16) -> bool
+    ensures { λ r. ⌜ r ≡ mayShare n ⌝ }
+{
+    !string_of(n).secret
 }
 
 // Where the flags stand in every structure, and the CHAP type in one that has it; the CHAP types are 0 to 2.

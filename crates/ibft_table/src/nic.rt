@@ -51,6 +51,7 @@ impl Nic {
         at: 98,
         longest: LONGEST,
         host: true,
+        secret: false,
     };
 
     // The slot of NIC n, the n-th by Index: the named ones, then the extras; past the last, no slot.

@@ -51,30 +51,35 @@ impl Target {
         at: 34,
         longest: LONGEST_NAME,
         host: false,
+        secret: false,
     };
 
     pub(crate) const CHAP_NAME: StringShape = StringShape {
         at: 38,
         longest: LONGEST,
         host: false,
+        secret: false,
     };
 
     pub(crate) const CHAP_SECRET: StringShape = StringShape {
         at: 42,
         longest: LONGEST,
         host: false,
+        secret: true,
     };
 
     pub(crate) const REVERSE_NAME: StringShape = StringShape {
         at: 46,
         longest: LONGEST,
         host: false,
+        secret: false,
     };
 
     pub(crate) const REVERSE_SECRET: StringShape = StringShape {
         at: 50,
         longest: LONGEST,
         host: false,
+        secret: true,
     };
 
     // The flag bits that the login order looks at.

@@ -1,14 +1,12 @@
 -- `host_of` meets its contract: none of the entries passed holds it, and one below the limit does. Assumes nothing.
 use mathlib.Core.Path.{_≡_, refl, sym, _∙_}
-use mathlib.Core.Bool.{false, _&&_}
+use mathlib.Core.Bool.{false}
 use Prim.Native.Nat.{ℕ, _-_, _≤_, _<_}
 use native.Mathlib.Omega.{arith}
 use borrow.Author.Count.{below-more, below-none}
 use Rattle.octets.specs.Octets.{part}
-use Rattle.string_heap.specs.Stored.{every, stored}
-use Rattle.string_heap.specs.Places.{endsWith}
 use Rattle.ibft_table.specs.Layout.{entryCount}
-use Rattle.ibft_build.specs.Planning.{entriesGiven}
+use Rattle.ibft_build.specs.Planning.{canHold}
 use Rattle.ibft_build.proofs.EntryLaws.{limit-most, limit-below, wanted-there, wanted-count}
 use Rattle.ibft_build.proofs.PlaceLaws.{host-first}
 use borrow.Author.Needs.{needs}
@@ -18,7 +16,7 @@ use Rattle.ibft_build.proofs.offsets.host_of.Tie as tie
 abbrev Inv-loop : tie.InvT-loop
 Inv-loop range strings wanted fields sizes limit i start size j₀ j =
     (j ≤ limit) × (limit ≤ entryCount)
-    × ((k : ℕ) → k < j → (stored entryCount every (entriesGiven range strings) k && endsWith (part strings start size) (entriesGiven range strings k)) ≡ false)
+    × ((k : ℕ) → k < j → canHold range strings (part strings start size) k ≡ false)
 
 abbrev μ-loop : tie.MeasureT-loop
 μ-loop range strings wanted fields sizes limit i start size j₀ j = limit - j
@@ -52,7 +50,7 @@ returns c =
     let h = limit-below _ _ (p .5) in
     let long = wanted-there _ _ (p .1) _ h (p .6) in
     let limit = p .4 in
-    host-first _ _ _ h (p .6) _ _ _ (c .before .before .before .before .before .start-at .ensures) (omega arith) (omega arith) (c .before .before .before .loop .inv .2) _
+    host-first _ _ _ h (p .6) (p .7) _ _ _ (c .before .before .before .before .before .start-at .ensures) (omega arith) (omega arith) (c .before .before .before .loop .inv .2) _
     (c .before .is-host .ensures) (λ l. c .if1 .taken)
 
 loop-again : tie.Need-loop-again Inv-loop μ-loop
@@ -64,7 +62,7 @@ returns-2 c =
     let h = limit-below _ _ (p .5) in
     let long = wanted-there _ _ (p .1) _ h (p .6) in
     let limit = p .4 in
-    host-first _ _ _ h (p .6) _ _ _ (c .before .before .before .start-at .ensures) (omega arith) (omega arith) (c .before .loop .inv .2) _ refl (λ l. absurd (omega arith))
+    host-first _ _ _ h (p .6) (p .7) _ _ _ (c .before .before .before .start-at .ensures) (omega arith) (omega arith) (c .before .loop .inv .2) _ refl (λ l. absurd (omega arith))
 
 pub host-of-spec : {M : Type 1} → statement M
 host-of-spec = tie.close (tie.spec Inv-loop μ-loop start-at-requires (search needs) (search needs) shared-slice-read-size cast-size sub-size loop-holds is-host-requires returns (search needs) (search needs) loop-again returns-2)

@@ -1,7 +1,9 @@
--- `is_host` meets its contract: an entry that is not stored or shorter holds none; else the tail decides. Assumes nothing.
+-- `is_host` meets its contract: an entry that is not stored, is shorter or is a secret holds none; else the tail decides. Assumes nothing.
+use mathlib.Core.Path.{sym, _∙_}
 use native.Mathlib.Omega.{arith}
+use borrow.Author.Tests.{not-true, not-false}
 use Rattle.ibft_build.proofs.EntryLaws.{limit-below}
-use Rattle.ibft_build.proofs.PlaceLaws.{sizes-at, sizes-count, size-lies, host-not, host-tail}
+use Rattle.ibft_build.proofs.PlaceLaws.{sizes-at, sizes-count, size-lies, host-not, host-secret, host-tail}
 use borrow.Author.Needs.{needs}
 use Rattle.ibft_build.proofs.offsets.is_host.Statement.{statement}
 use Rattle.ibft_build.proofs.offsets.is_host.Tie as tie
@@ -18,21 +20,26 @@ returns c =
     let h = limit-below _ _ (p .4) in
     host-not _ _ (p .0) _ _ (p .3) _ h _ (sizes-at _ _ _ (p .2) _ h) (search needs)
 
+returns-2 : tie.Need-returns-2
+returns-2 c = host-secret _ _ _ _ (sym (c .before .may-share .ensures) ∙ not-true _ (c .if2 .taken))
+
 start-at-requires : tie.Need-start-at-requires
-start-at-requires c κs = let p = c .before .before .before .before .before .before .pre in (p .1, p .4)
+start-at-requires c κs = let p = c .before .before .before .before .before .before .before .before .pre in (p .1, p .4)
 
 ends-with-requires : tie.Need-ends-with-requires
 ends-with-requires c κs =
-    let p = c .before .before .before .before .before .before .before .pre in
+    let p = c .before .before .before .before .before .before .before .before .before .pre in
     let h = limit-below _ _ (p .4) in
     let lies = size-lies _ _ _ (p .0) h _ (sizes-at _ _ _ (p .2) _ h) (omega arith) _ (c .start-at .ensures) in
     (p .3, lies .fits, omega arith)
 
-returns-2 : tie.Need-returns-2
-returns-2 c =
-    let p = c .before .before .before .before .before .before .before .before .pre in
+returns-3 : tie.Need-returns-3
+returns-3 c =
+    let p = c .before .before .before .before .before .before .before .before .before .before .pre in
     let h = limit-below _ _ (p .4) in
-    host-tail _ _ (p .0) _ _ (p .3) _ h _ (sizes-at _ _ _ (p .2) _ h) (omega arith) _ (c .before .start-at .ensures) _ (c .ends-with .ensures)
+    let plain = c .before .before in
+    host-tail _ _ (p .0) _ _ (p .3) _ h _ (sizes-at _ _ _ (p .2) _ h) (omega arith) (sym (plain .before .may-share .ensures) ∙ not-false _ (plain .if2 .left)) _
+    (c .before .start-at .ensures) _ (c .ends-with .ensures)
 
 pub is-host-spec : {M : Type 1} → statement M
-is-host-spec = tie.close (tie.spec (search needs) shared-slice-read-other cast-other returns start-at-requires (search needs) (search needs) ends-with-requires returns-2)
+is-host-spec = tie.close (tie.spec (search needs) shared-slice-read-other cast-other returns (search needs) returns-2 start-at-requires (search needs) (search needs) ends-with-requires returns-3)

@@ -1,8 +1,8 @@
 -- `place_of` meets its contract: a stored entry is its own host, any other has the rest of its host before it. Assumes nothing.
-use mathlib.Core.Path.{refl}
+use mathlib.Core.Path.{refl, sym, _∙_}
 use native.Mathlib.Omega.{arith}
 use Rattle.ibft_build.proofs.EntryLaws.{limit-below, wanted-at, wanted-count}
-use Rattle.ibft_build.proofs.PlaceLaws.{sizes-at, sizes-count, sizes-sum, host-below, place-self, place-host}
+use Rattle.ibft_build.proofs.PlaceLaws.{sizes-at, sizes-count, sizes-sum, size-gone, host-below, place-self, place-host}
 use borrow.Author.Needs.{needs}
 use Rattle.ibft_build.proofs.offsets.place_of.Statement.{statement}
 use Rattle.ibft_build.proofs.offsets.place_of.Tie as tie
@@ -21,7 +21,10 @@ returns c =
     place-self _ _ (p .0) _ h (p .6) (omega arith) _ (sizes-sum _ _ _ (p .3) _ (omega arith) _ (c .sum-below .ensures .0))
 
 host-of-requires : tie.Need-host-of-requires
-host-of-requires c κs = c .before .before .before .before .before .before .before .pre
+host-of-requires c κs =
+    let p = c .before .before .before .before .before .before .before .pre in
+    let h = limit-below _ _ (p .5) in
+    (p .0, p .1, p .2, p .3, p .4, p .5, p .6, size-gone _ _ _ (p .0) h (sym (sizes-at _ _ _ (p .3) _ h) ∙ c .if1 .left))
 
 shared-slice-read-spared : tie.Need-shared-slice-read-spared
 shared-slice-read-spared c =

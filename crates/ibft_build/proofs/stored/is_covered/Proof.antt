@@ -6,8 +6,8 @@ use native.Mathlib.Omega.{arith}
 use borrow.Author.Count.{below-more, below-none}
 use Rattle.octets.specs.Octets.{part}
 use Rattle.octets.proofs.CountingLaws.{any-yes}
-use Rattle.string_heap.specs.Stored.{every, coveredBy}
-use Rattle.ibft_table.specs.Layout.{entryCount}
+use Rattle.string_heap.specs.Stored.{coveredBy}
+use Rattle.ibft_table.specs.Layout.{entryCount, mayShare}
 use Rattle.ibft_build.specs.Planning.{entriesGiven}
 use Rattle.ibft_build.proofs.EntryLaws.{limit-most}
 use Rattle.ibft_build.proofs.CoverLaws.{covered-none}
@@ -17,7 +17,7 @@ use Rattle.ibft_build.proofs.stored.is_covered.Tie as tie
 
 abbrev Inv-loop : tie.InvT-loop
 Inv-loop range strings wanted fields limit i start size j₀ j =
-    (limit ≤ entryCount) × ((k : ℕ) → k < j → coveredBy every i (part strings start size) k (entriesGiven range strings k) ≡ false)
+    (limit ≤ entryCount) × ((k : ℕ) → k < j → coveredBy mayShare i (part strings start size) k (entriesGiven range strings k) ≡ false)
 
 abbrev μ-loop : tie.MeasureT-loop
 μ-loop range strings wanted fields limit i start size j₀ j = entryCount - j

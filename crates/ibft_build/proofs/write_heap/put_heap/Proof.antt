@@ -6,9 +6,8 @@ use lib.ListN.{length}
 use Rattle.octets.specs.Counting.{sumTo}
 use Rattle.octets.specs.Octets.{write}
 use Rattle.octets.proofs.WriteLaws.{length-written}
-use Rattle.string_heap.specs.Stored.{every}
 use Rattle.string_heap.specs.Places.{heapTo}
-use Rattle.ibft_table.specs.Layout.{entryCount}
+use Rattle.ibft_table.specs.Layout.{entryCount, mayShare}
 use Rattle.ibft_build.specs.Planning.{entriesGiven, sizeGiven}
 use Rattle.ibft_build.proofs.RecordLaws.{entry-limit-most}
 use Rattle.ibft_build.proofs.PlaceLaws.{sum-none, sum-more, sizes-at, sizes-count}
@@ -20,7 +19,7 @@ use Rattle.ibft_build.proofs.write_heap.put_heap.Tie as tie
 abbrev Inv-loop : tie.InvT-loop
 Inv-loop heap₀ range strings fields sizes limit at₀ n₀ heap at n =
     (n ≤ limit) × (at ≡ sumTo n (sizeGiven range strings)) × (at ≤ 65535 * n) × (length heap ≡ length heap₀)
-    × (heap ≡ write heap₀ 0 (heapTo entryCount every (entriesGiven range strings) n))
+    × (heap ≡ write heap₀ 0 (heapTo entryCount mayShare (entriesGiven range strings) n))
 
 abbrev μ-loop : tie.MeasureT-loop
 μ-loop heap₀ range strings fields sizes limit at₀ n₀ heap at n = limit - n
