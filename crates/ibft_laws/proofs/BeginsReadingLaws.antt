@@ -85,9 +85,9 @@ module _ (t u : List ℕ) (ok : checkOf t ≡ Accepted) (like : Begins u t (leng
     where
       go : number < slotCount → (b : Bool) → present t k ≡ b → f (slotVerdict (startsOf u) u number k) ≡ g (slotVerdict (startsOf t) t number k)
       go h true on =
-          ap f (slot-verdict u ok′ number k h (present-same t u least like starts k ∙ on)) ∙ on-both on ∙ sym (ap g (slot-verdict t ok number k h on))
+          ap f (slot-verdict u ok′ number k h (present-same t u (lengthOf t) least like starts k ∙ on)) ∙ on-both on ∙ sym (ap g (slot-verdict t ok number k h on))
       go h false off =
-          ap f (slot-missing u ok′ number k h (present-same t u least like starts k ∙ off)) ∙ refused _ ∙ sym (ap g (slot-missing t ok number k h off))
+          ap f (slot-missing u ok′ number k h (present-same t u (lengthOf t) least like starts k ∙ off)) ∙ refused _ ∙ sym (ap g (slot-missing t ok number k h off))
 
   pub begins-slot-verdict : (number k : ℕ) → slotVerdict (startsOf u) u number k ≡ slotVerdict (startsOf t) t number k
   begins-slot-verdict number k = by-slot number k (λ (v : Verdict). v) (λ (v : Verdict). v) (λ r. refl) (λ on. refl)
@@ -102,8 +102,8 @@ module _ (t u : List ℕ) (ok : checkOf t ≡ Accepted) (like : Begins u t (leng
       same : (k : ℕ) → present t k ≡ true → structureFrom (startsOf u) u k Accepted ≡ structureFrom (startsOf t) t k Accepted
       same k on =
           let h = present-below t k on in
-          let flags = structure-byte-same t u least like starts k (slot-kept t ok k h on .inside) 5 (omega (arith, slot-fits k h .flags, slot-fits k h .words)) in
-          let start = start-same t u least like starts k in
+          let flags = structure-byte-same t u (lengthOf t) least like starts k (slot-kept t ok k h on .inside) 5 (omega (arith, slot-fits k h .flags, slot-fits k h .words)) in
+          let start = start-same t u (lengthOf t) least like starts k in
           let index = begins-index t u ok like k h in
           λ i. record { refusal = refusalOf Accepted; id = (kindOf k) .id; index = index i; start = start i; flags = flags i }
 
@@ -116,10 +116,10 @@ module _ (t u : List ℕ) (ok : checkOf t ≡ Accepted) (like : Begins u t (leng
       let size : (kindOf k) .length ≡ kind .length = ap (λ (κ : Kind). κ .length) (is h) in
       let long-t : kind .length ≤ length (drop (startOf t k) t) = omega (arith, size, length-drop (startOf t k) t, slot-end-le t ok k h on, length-le t ok) in
       let long-u : kind .length ≤ length (drop (startOf u k) u) =
-      omega (arith, size, length-drop (startOf u k) u, start-same t u least like starts k, slot-end-le t ok k h on, like .long) in
+      omega (arith, size, length-drop (startOf u k) u, start-same t u (lengthOf t) least like starts k, slot-end-le t ok k h on, like .long) in
       let bytes : part (drop (startOf u k) u) 0 (kind .length) ≡ part (drop (startOf t k) t) 0 (kind .length) =
       part-from u (startOf u k) 0 (kind .length)
-      ∙ structure-part-same t u least like starts k (slot-kept t ok k h on .inside) 0 (kind .length) (omega (arith, size))
+      ∙ structure-part-same t u (lengthOf t) least like starts k (slot-kept t ok k h on .inside) 0 (kind .length) (omega (arith, size))
       ∙ sym (part-from t (startOf t k) 0 (kind .length)) in
       sym (whole (drop (startOf u k) u) long-u) ∙ ap read bytes ∙ whole (drop (startOf t k) t) long-t
 
@@ -195,8 +195,8 @@ module _ (t u : List ℕ) (ok : checkOf t ≡ Accepted) (like : Begins u t (leng
       same n on =
           let h = holds-below t n on in
           let own = owner-inside t ok n h (entry-owner-on t n on) in
-          let offset = offset-same t u least like starts n h own in
-          let size = size-same t u least like starts n h own in
+          let offset = offset-same t u (lengthOf t) least like starts n h own in
+          let size = size-same t u (lengthOf t) least like starts n h own in
           λ i. record { refusal = refusalOf Accepted; offset = offset i; length = size i }
 
   pub begins-view : (number : ℕ) → viewOf u number ≡ viewOf t number

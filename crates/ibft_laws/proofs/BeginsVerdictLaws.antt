@@ -82,7 +82,7 @@ module _ (t u : List ℕ) (least : 66 ≤ lengthOf t) (whole : lengthOf t ≤ le
   unfolding headerTests
   header-same =
       let long = like .long in
-      let len = length-same t u least like in
+      let len = length-same t u (lengthOf t) least like in
       let lent : ltb (length u) 48 ≡ ltb (length t) 48 = le-ltb (length u) 48 (omega arith) ∙ sym (le-ltb (length t) 48 (omega arith)) in
       let there : ltb (length u) (lengthOf u) ≡ ltb (length t) (lengthOf t) =
       le-ltb (length u) (lengthOf u) (omega arith) ∙ sym (le-ltb (length t) (lengthOf t) whole) in
@@ -106,14 +106,14 @@ module _ (t u : List ℕ) (least : 66 ≤ lengthOf t) (whole : lengthOf t ≤ le
   control-same : firstOf (controlTests u) ≡ firstOf (controlTests t)
   unfolding controlTests alienControl
   control-same =
-      let len = control-length-same t u least like in
+      let len = control-length-same t u (lengthOf t) least like in
       cons-same _ _ _ _
       (ap₂ _||_ (ap (λ (b : ℕ). differs b 1) (byte-is controlAt (omega arith)))
       (ap₂ _||_ (ap (λ (b : ℕ). differs b 1) (byte-is (controlAt + 1) (omega arith)))
       (ap₂ _||_ (ap (λ (b : ℕ). differs b 0) (byte-is (controlAt + 4) (omega arith)))
       (ap₂ _||_ (ap (λ (l : ℕ). ltb l (control .length)) len)
       (ap₂ _||_ (ap (λ (l : ℕ). ltb (control .length + 2 * mostWords) l) len)
-      (ap₂ _||_ (ap (λ (l : ℕ). differs (l % 2) 0) len) (ap₂ ltb (length-same t u least like) (control-end-same t u least like))))))))
+      (ap₂ _||_ (ap (λ (l : ℕ). differs (l % 2) 0) len) (ap₂ ltb (length-same t u (lengthOf t) least like) (control-end-same t u (lengthOf t) least like))))))))
       refl
       (λ e1. cons-same _ _ _ _ (ap (λ (b : ℕ). reservedSet b control) (byte-is (controlAt + 5) (omega arith))) refl
       (λ e2. cons-same _ _ _ _ (ap (λ (w : ℕ). differs w 0) (word16-same u t (lengthOf t) like extensionsAt (omega arith))) refl (λ e3. refl)))
@@ -142,26 +142,26 @@ module _ (t u : List ℕ) (least : 66 ≤ lengthOf t) (whole : lengthOf t ≤ le
 
     module _ (w : ℕ) (h : w < wordCount t) where
       start : startAt u w ≡ startAt t w
-      start = at-same t u least like inside w h
+      start = at-same t u (lengthOf t) least like inside w h
 
       misplaced-same : (size size′ : ℕ) → size ≡ size′ → misplaced u w size ≡ misplaced t w size′
       unfolding misplaced
       misplaced-same size size′ is =
           ap₂ _||_ (ap (λ (s : ℕ). differs (s % 8) 0) start)
-          (ap₂ _||_ (ap₂ ltb start (control-end-same t u least like)) (ap₂ ltb (length-same t u least like) (ap₂ _+_ start is)))
+          (ap₂ _||_ (ap₂ ltb start (control-end-same t u (lengthOf t) least like)) (ap₂ ltb (length-same t u (lengthOf t) least like) (ap₂ _+_ start is)))
 
       -- what stands at its start, where the first six bytes are inside
       alien-at : startAt t w + 6 ≤ lengthOf t → alien u (startAt u w) (kindAt u w) (indexAt u w) ≡ alien t (startAt t w) (kindAt t w) (indexAt t w)
       alien-at six =
           ap (λ (s : ℕ). alien u s (kindAt u w) (indexAt u w)) start
-          ∙ ap₂ (alien u (startAt t w)) (kind-same t u least like inside w h six) (index-same t u least like inside w h six)
+          ∙ ap₂ (alien u (startAt t w)) (kind-same t u (lengthOf t) least like inside w h six) (index-same t u (lengthOf t) least like inside w h six)
           ∙ alien-same (startAt t w) (kindAt t w) (indexAt t w) (omega arith)
 
       named-same : w < namedCount → firstOf (namedTests u w) ≡ firstOf (namedTests t w)
       unfolding namedTests endAt
       named-same l =
           cons-same _ _ _ _
-          (misplaced-same ((kindAt u w) .length) ((kindAt t w) .length) (ap (λ (k : Kind). k .length) (named-kind-same t u least like inside w h l)))
+          (misplaced-same ((kindAt u w) .length) ((kindAt t w) .length) (ap (λ (k : Kind). k .length) (named-kind-same t u (lengthOf t) least like inside w h l)))
           refl
           (λ e1.
           let six = six-inside w (placed-facts t w ((kindAt t w) .length) e1 .2) in
@@ -174,14 +174,14 @@ module _ (t u : List ℕ) (least : 66 ≤ lengthOf t) (whole : lengthOf t ≤ le
           (λ e1.
           let six = placed-facts t w 6 e1 .2 in
           cons-same _ _ _ _
-          (ap₂ _||_ (alien-at six) (ap (λ (i : ℕ). ltb i leastIndex) (index-same t u least like inside w h six)))
+          (ap₂ _||_ (alien-at six) (ap (λ (i : ℕ). ltb i leastIndex) (index-same t u (lengthOf t) least like inside w h six)))
           (ap (λ (s : ℕ). record { number = 13; place = s }) start)
-          (λ e2. cons-same _ _ _ _ (ap₂ ltb (length-same t u least like) (end-same t u least like inside w h six)) refl
+          (λ e2. cons-same _ _ _ _ (ap₂ ltb (length-same t u (lengthOf t) least like) (end-same t u (lengthOf t) least like inside w h six)) refl
           (λ e3. cons-same _ _ _ _
-          (any-same w (twin u w) (twin t w) (λ v l. index-test-same t u least like inside w (omega arith) early eqb w v l h six))
+          (any-same w (twin u w) (twin t w) (λ v l. index-test-same t u (lengthOf t) least like inside w (omega arith) early eqb w v l h six))
           refl
           (λ e4. cons-same _ _ _ _
-          (ap (leb extraMost) (count-same w (alike u w) (alike t w) (λ v l. alike-same t u least like inside w (omega arith) early w v l h six)))
+          (ap (leb extraMost) (count-same w (alike u w) (alike t w) (λ v l. alike-same t u (lengthOf t) least like inside w (omega arith) early w v l h six)))
           refl
           (λ e5. refl)))))
 
@@ -197,7 +197,7 @@ module _ (t u : List ℕ) (least : 66 ≤ lengthOf t) (whole : lengthOf t ≤ le
       unfolding flagTests endAt
       flags-same whole =
           let six = six-inside w whole in
-          let kind = kind-same t u least like inside w h six in
+          let kind = kind-same t u (lengthOf t) least like inside w h six in
           let flag : byte u (startAt u w + 5) ≡ byte t (startAt t w + 5) = ap (λ (s : ℕ). byte u (s + 5)) start ∙ byte-is (startAt t w + 5) (omega arith) in
           cons-same _ _ _ _ (ap₂ reservedSet flag kind) (ap (λ (s : ℕ). record { number = 10; place = s + 5 }) start)
           (λ e1. cons-same _ _ _ _
@@ -217,9 +217,9 @@ module _ (t u : List ℕ) (least : 66 ≤ lengthOf t) (whole : lengthOf t ≤ le
       word-same early = go (usedAt t w) refl
         where
           go : (b : Bool) → usedAt t w ≡ b → firstOf (wordTests u w) ≡ firstOf (wordTests t w)
-          go false off = rw (used-same t u least like inside w h, off)
+          go false off = rw (used-same t u (lengthOf t) least like inside w h, off)
           go true on =
-              rw (used-same t u least like inside w h, on)
+              rw (used-same t u (lengthOf t) least like inside w h, on)
               (append-same (cond (ltb w namedCount) (namedTests u w) (extraTests u w)) (cond (ltb w namedCount) (namedTests t w) (extraTests t w)) _ _
               (front-same early)
               (λ e. flags-same (front-inside w e)))
@@ -237,14 +237,14 @@ module _ (t u : List ℕ) (least : 66 ≤ lengthOf t) (whole : lengthOf t ≤ le
           go : (a b : Bool) → usedAt t v ≡ a → usedAt t w ≡ b
               → (usedAt u v && (usedAt u w && (ltb (startAt u v) (endAt u w) && ltb (startAt u w) (endAt u v))))
               ≡ (usedAt t v && (usedAt t w && (ltb (startAt t v) (endAt t w) && ltb (startAt t w) (endAt t v))))
-          go false b p q = rw (used-same t u least like inside v hv, p)
-          go true false p q = rw (used-same t u least like inside v hv, used-same t u least like inside w h, p, q)
+          go false b p q = rw (used-same t u (lengthOf t) least like inside v hv, p)
+          go true false p q = rw (used-same t u (lengthOf t) least like inside v hv, used-same t u (lengthOf t) least like inside w h, p, q)
           go true true p q =
-              ap₂ _&&_ (used-same t u least like inside v hv)
-              (ap₂ _&&_ (used-same t u least like inside w h)
+              ap₂ _&&_ (used-same t u (lengthOf t) least like inside v hv)
+              (ap₂ _&&_ (used-same t u (lengthOf t) least like inside w h)
               (ap₂ _&&_
-              (ap₂ ltb (at-same t u least like inside v hv) (end-same t u least like inside w h (six w h q)))
-              (ap₂ ltb (at-same t u least like inside w h) (end-same t u least like inside v hv (six v hv p)))))
+              (ap₂ ltb (at-same t u (lengthOf t) least like inside v hv) (end-same t u (lengthOf t) least like inside w h (six w h q)))
+              (ap₂ ltb (at-same t u (lengthOf t) least like inside w h) (end-same t u (lengthOf t) least like inside v hv (six v hv p)))))
 
       overlaps-same : firstOf (overlapTests u w) ≡ firstOf (overlapTests t w)
       unfolding overlapTests
@@ -263,15 +263,15 @@ module _ (t u : List ℕ) (least : 66 ≤ lengthOf t) (whole : lengthOf t ≤ le
           owned = inside (ownerOf n) (entry-fits n h .owner)
 
           go : (b : Bool) → holdsEntry t n ≡ b → firstOf (entryTests (startsOf u) u n) ≡ firstOf (entryTests (startsOf t) t n)
-          go false off = rw (holds-same t u least like starts n h owned, off)
+          go false off = rw (holds-same t u (lengthOf t) least like starts n h owned, off)
           go true on =
               let own = owned (entry-owner-on t n on) in
-              let len = length-same t u least like in
-              let offset = offset-same t u least like starts n h own in
-              let size = size-same t u least like starts n h own in
+              let len = length-same t u (lengthOf t) least like in
+              let offset = offset-same t u (lengthOf t) least like starts n h own in
+              let size = size-same t u (lengthOf t) least like starts n h own in
               let end : offsetOf u n + sizeOf u n ≡ offsetOf t n + sizeOf t n = ap₂ _+_ offset size in
-              let field = field-same t u least like starts n h in
-              rw (holds-same t u least like starts n h owned, on)
+              let field = field-same t u (lengthOf t) least like starts n h in
+              rw (holds-same t u (lengthOf t) least like starts n h owned, on)
               (cons-same _ _ _ _ (ap₂ ltb offset heap) (ap (λ (f : ℕ). record { number = 15; place = f }) field)
               (λ e1. cons-same _ _ _ _ (ap₂ ltb len end) (ap (λ (f : ℕ). record { number = 15; place = f }) field)
               (λ e2. cons-same _ _ _ _ (ap₂ (λ (s o : ℕ). differs s 0 && eqb o 0) size offset) (ap (λ (f : ℕ). record { number = 15; place = f }) field)
@@ -283,7 +283,7 @@ module _ (t u : List ℕ) (least : 66 ≤ lengthOf t) (whole : lengthOf t ≤ le
               (ap (λ (f : ℕ). record { number = 16; place = f }) field)
               (λ e5. cons-same _ _ _ _ (ap (ltb ((stringOf n) .longest)) size) (ap (λ (f : ℕ). record { number = 17; place = f }) field)
               (λ e6. cons-same _ _ _ _
-              (ap (λ (x : List ℕ). (stringOf n) .host && not (isHostName x)) (entry-bytes-same t u least like starts n h own (omega arith)))
+              (ap (λ (x : List ℕ). (stringOf n) .host && not (isHostName x)) (entry-bytes-same t u (lengthOf t) least like starts n h own (omega arith)))
               (ap (λ (f : ℕ). record { number = 18; place = f }) field)
               (λ e7. refl))))))))
 
@@ -317,17 +317,17 @@ module _ (t u : List ℕ) (least : 66 ≤ lengthOf t) (whole : lengthOf t ≤ le
       λ w h. gather-passes (wordTests t) (wordCount t) 0 w words (omega arith) (omega arith) in
       let whole : (w : ℕ) → w < wordCount t → usedAt t w ≡ true → endAt t w ≤ lengthOf t = λ w h on. word-inside inside w (each w h) on in
       let six : (w : ℕ) → w < wordCount t → usedAt t w ≡ true → startAt t w + 6 ≤ lengthOf t = λ w h on. six-inside inside w (whole w h on) in
-      let starts = starts-same t u least like inside six in
-      let heap = heap-same t u least like inside six in
+      let starts = starts-same t u (lengthOf t) least like inside six in
+      let heap = heap-same t u (lengthOf t) least like inside six in
       append-same (gather (overlapTests u) 0 (wordCount u)) (gather (overlapTests t) 0 (wordCount t)) _ _
-      (ap (λ (n : ℕ). firstOf (gather (overlapTests u) 0 n)) (words-same t u least like)
+      (ap (λ (n : ℕ). firstOf (gather (overlapTests u) 0 n)) (words-same t u (lengthOf t) least like)
       ∙ gather-verdict-same (overlapTests u) (overlapTests t) 0 (wordCount t) (λ w l h. overlaps-same inside six w (omega arith)))
       (λ e. gather-verdict-same (entryTests (startsOf u) u) (entryTests (startsOf t) t) 0 entryCount
       (λ n l h. entry-same starts heap (slot-inside (λ w low h on. extra-facts t w (each w h) low on) whole) n (omega arith)))
 
   words-verdict : controlEndOf t ≤ lengthOf t → firstOf (gather (wordTests u) 0 (wordCount u)) ≡ firstOf (gather (wordTests t) 0 (wordCount t))
   words-verdict inside =
-      ap (λ (n : ℕ). firstOf (gather (wordTests u) 0 n)) (words-same t u least like)
+      ap (λ (n : ℕ). firstOf (gather (wordTests u) 0 n)) (words-same t u (lengthOf t) least like)
       ∙ gather-early-same (wordTests u) (wordTests t) 0 (wordCount t)
       (λ w l h early. word-same inside w (omega arith) (λ v b on. six-inside inside v (word-inside inside v (early v (omega arith) b) on)))
 
