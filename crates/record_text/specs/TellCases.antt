@@ -1,10 +1,11 @@
 -- Worked tables and the lines they tell, by computation: as one list under one theorem.
 use mathlib.Core.Path.{_≡_, refl}
+use mathlib.Core.Bool.{_&&_}
 use mathlib.Core.List.{List, [], _∷_, _++_, map}
 use Prim.Native.Nat.{ℕ, _*_}
 use Prim.Native.String.{String}
 use lib.ListN.{take}
-use Rattle.octets.specs.Counting.{gather}
+use Rattle.octets.specs.Counting.{tabulate, gather}
 use Rattle.octets.specs.Octets.{le16, zeros, checksum, write}
 use Rattle.text.specs.Put.{ascii}
 use Rattle.text.specs.Computing.{computing as of-text}
@@ -13,6 +14,7 @@ use Rattle.notation.specs.Escape.{byteText, textAt, stringText}
 use Rattle.notation.specs.Address.{zeroRun, longest, groupsText, fourText, sixText, isMapped, addressText}
 use Rattle.notation.specs.Mac.{macText}
 use Rattle.notation.specs.Pci.{pciText}
+use Rattle.ibft_table.specs.Layout.{stringOf}
 use Rattle.ibft_table.specs.Computing.{computing as of-tables}
 use Rattle.record_text.specs.Fields.{isText, groupOf, groupCount, fieldIn, fieldOf, fieldCount, entryOf, nameOf}
 use Rattle.record_text.specs.Value.{valueText}
@@ -110,3 +112,9 @@ hidden-told : map (λ (t : List ℕ). gather (tellHidden t) 0 (16 * groupCount))
     ∷ [] ∷ []
 unfolding of-tables of-text digitByte digitsWithin digits padded byteText textAt stringText zeroRun longest groupsText fourText sixText isMapped addressText macText pciText isText groupOf fieldIn fieldOf fieldCount entryOf nameOf valueText structureField recordField bytesIn ifAccepted bytesOf isTold lineWith lineOf hiddenLine shownLine tellHidden case5 changed secrets ended
 hidden-told = refl
+
+-- what is hidden is, of all fields, what the layout calls a secret
+hidden-secrets : tabulate (λ (f : ℕ). (fieldOf f) .secret) 0 (16 * groupCount)
+    ≡ tabulate (λ (f : ℕ). isText ((fieldOf f) .notation) && (stringOf (entryOf f)) .secret) 0 (16 * groupCount)
+unfolding of-tables isText groupOf fieldIn fieldOf entryOf
+hidden-secrets = refl
