@@ -31,7 +31,7 @@
  * is added; MAJOR where a program that was written for an earlier version may
  * have to be changed, and MINOR is 0 then. */
 #define BOOTFW_VERSION_MAJOR 1
-#define BOOTFW_VERSION_MINOR 2
+#define BOOTFW_VERSION_MINOR 3
 #define BOOTFW_VERSION (BOOTFW_VERSION_MAJOR * 0x10000 + BOOTFW_VERSION_MINOR)
 
 /* A layout that differs from the published one must not compile. The array of
@@ -543,21 +543,23 @@ uint64_t ibft_check(const uint8_t *table, size_t table_size) BOOTFW_CALL;
 /* Builds the shortest table of a record into the room. The record is one struct
  * ibft_record, or a struct ibft_expanded_record with its extras behind it; its
  * strings stand in the range lent for them. The room shares no byte with either:
- * that is taken on trust. Answers 0 with place 0 and the table's Length, and the
- * room past that keeps its bytes; or the first of 25, 8, 34, 13, 33, 10, 19, 24, 17,
- * 20, 18 and 21 that applies, with its place and Length 0, and writes nothing. */
+ * that is taken on trust. In the table each CHAP secret and reverse CHAP secret has
+ * bytes and a zero of its own, so that it can be wiped with its zero and no other
+ * string changes. Answers 0 with place 0 and the table's Length, and the room past that
+ * keeps its bytes; or the first of 25, 8, 34, 13, 33, 10, 19, 24, 17, 20, 18 and 21 that
+ * applies, with its place and Length 0, and writes nothing. */
 uint64_t ibft_build(const uint8_t *record, size_t record_size,
                     const uint8_t *strings, size_t strings_size,
                     uint8_t *room, size_t room_size) BOOTFW_CALL;
 
 /* Builds the shortest table of what the lent table holds into the room; more may be
  * lent than its Length. The room shares no byte with the table: that is taken on
- * trust. The new table can be up to four bytes longer than the old one, where that had
- * its structures in another order; room of IBFT_LARGEST_LENGTH_WITH_EXTRAS is always
- * enough. Answers 0 with place 0 and the new table's Length, and the room past that
- * keeps its bytes; or the first refusal of a check, with its place; or 20 with the
- * number of the first string that holds a zero byte; or 21. When refused, Length is 0
- * and nothing is written. */
+ * trust. The new table can be longer than the old one, where that had its structures
+ * in another order or secrets that share bytes with other strings; room of
+ * IBFT_LARGEST_LENGTH_WITH_EXTRAS is always enough. Answers 0 with place 0 and the new
+ * table's Length, and the room past that keeps its bytes; or the first refusal of a
+ * check, with its place; or 20 with the number of the first string that holds a zero
+ * byte; or 21. When refused, Length is 0 and nothing is written. */
 uint64_t ibft_rebuild(const uint8_t *table, size_t table_size,
                       uint8_t *room, size_t room_size) BOOTFW_CALL;
 

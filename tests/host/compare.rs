@@ -23,6 +23,7 @@ mod compare_show;
 mod compare_tail;
 mod compare_text;
 mod compare_views;
+mod compare_wipe;
 mod field_maker;
 mod good_records;
 mod good_tables;
@@ -63,6 +64,7 @@ mod refusals;
 mod running;
 mod samples;
 mod seeded;
+mod string_stretches;
 mod table_damage;
 mod table_maker;
 mod table_shapes;
@@ -86,7 +88,8 @@ fn main() {
         && compare_text::compare()
         && compare_build::compare()
         && compare_least::compare()
-        && compare_rebuild::compare();
+        && compare_rebuild::compare()
+        && compare_wipe::compare();
     if !all_agree {
         std::process::exit(1);
     }

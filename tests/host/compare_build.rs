@@ -68,7 +68,7 @@ struct Counts {
 // ---- Reading back ----
 
 /// What the library reads from a table, as a record; none where it refuses the table.
-fn record_read_by_library(table: &[u8]) -> Option<Record> {
+pub fn record_read_by_library(table: &[u8]) -> Option<Record> {
     let (at, size) = (table.as_ptr(), table.len());
     let mut out = [0; OUT_SIZE];
     let header = unsafe { library::test_header(at, size, out.as_mut_ptr(), OUT_SIZE) };

@@ -2,6 +2,9 @@
 //! extras, under Controls with enough words and too many; places of short strings over two letters, and
 //! whole tables with every heap. Each search also has to find the built Length itself, so that one that
 //! finds nothing because it looks wrongly is noticed.
+//!
+//! What counts are tables in which no secret shares a byte, or its zero byte, with another string (RULES.md,
+//! Least Length). Without this there are shorter ones: that too is searched for, and has to be found.
 
 use crate::good_tables::shuffle;
 use crate::library;
@@ -10,6 +13,7 @@ use crate::model_layout::*;
 use crate::model_record::{record_given, record_read};
 use crate::record_maker::{record_with_extras, Given, SIX};
 use crate::seeded::Seeded;
+use crate::string_stretches::secrets_are_apart;
 use crate::table_maker::{Table, FIRST_EXTRA};
 
 /// The table that the library builds.
@@ -28,6 +32,7 @@ fn built(given: &Given) -> Table {
     };
     assert_eq!(answer % (1 << 32), 0, "a build was refused");
     room.truncate((answer >> 32) as usize);
+    assert!(secrets_are_apart(&room), "a built secret shares bytes");
     Table {
         lent: room.len(),
         bytes: room,
@@ -240,23 +245,57 @@ fn short_texts() -> Vec<Vec<u8>> {
     texts
 }
 
-/// Can the strings be placed in `heap`, each with a zero byte behind it? A byte that nobody has
-/// asked for yet is none; strings may share bytes where they ask for the same.
-fn can_place(texts: &[&Vec<u8>], heap: &mut [Option<u8>], tried: &mut usize) -> bool {
-    let (text, others) = match texts.split_first() {
+/// A string that is to be placed.
+#[derive(Clone)]
+struct Wanted {
+    text: Vec<u8>,
+    is_secret: bool,
+}
+
+/// The strings of a record, by number.
+fn wanted_strings(given: &Given) -> Vec<Wanted> {
+    let record = record_given(&given.record, given.strings());
+    let secrets = record.secrets();
+    let all = record.entries.into_iter().zip(secrets);
+    all.filter_map(|(text, is_secret)| {
+        let text = text?;
+        Some(Wanted { text, is_secret })
+    })
+    .collect()
+}
+
+/// A byte of a heap that is being filled.
+#[derive(Clone, Copy, PartialEq)]
+enum Cell {
+    /// Nobody has asked for it yet.
+    Free,
+    /// It is this byte, for every string that asks for the same.
+    Open(u8),
+    /// A secret has it.
+    Secret,
+}
+
+/// Can the strings be placed in `heap`, each with a zero byte behind it? Strings may share bytes where they
+/// ask for the same; a secret takes bytes that nobody has asked for, and keeps them.
+fn can_place(wanted: &[Wanted], heap: &mut [Cell], tried: &mut usize) -> bool {
+    let (first, others) = match wanted.split_first() {
         Some(split) => split,
         None => return true,
     };
-    let closed: Vec<u8> = text.iter().copied().chain([0]).collect();
+    let ask = |byte: &u8| match first.is_secret {
+        true => Cell::Secret,
+        false => Cell::Open(*byte),
+    };
+    let closed: Vec<Cell> = first.text.iter().chain(&[0]).map(ask).collect();
     for start in 0..(heap.len() + 1).saturating_sub(closed.len()) {
         *tried += 1;
         let stretch = start..start + closed.len();
         let before = heap[stretch.clone()].to_vec();
-        let agrees = |(there, byte): (&Option<u8>, &u8)| there.map_or(true, |is| is == *byte);
-        if before.iter().zip(&closed).all(agrees) {
-            for (there, byte) in heap[stretch.clone()].iter_mut().zip(&closed) {
-                *there = Some(*byte);
-            }
+        let may_have = |(there, asked): (&Cell, &Cell)| {
+            *there == Cell::Free || there == asked && *asked != Cell::Secret
+        };
+        if before.iter().zip(&closed).all(may_have) {
+            heap[stretch.clone()].copy_from_slice(&closed);
             let done = can_place(others, heap, tried);
             heap[stretch].copy_from_slice(&before);
             if done {
@@ -265,6 +304,15 @@ fn can_place(texts: &[&Vec<u8>], heap: &mut [Option<u8>], tried: &mut usize) -> 
         }
     }
     false
+}
+
+/// The same strings where none of them is a secret.
+fn without_secrets(wanted: &[Wanted]) -> Vec<Wanted> {
+    let open = |string: &Wanted| Wanted {
+        is_secret: false,
+        ..string.clone()
+    };
+    wanted.iter().map(open).collect()
 }
 
 /// A record with these strings under any owners, named ones and extras; an empty one is no host name.
@@ -285,32 +333,69 @@ fn with_any_owners(seeded: &mut Seeded, texts: &[&Vec<u8>]) -> Given {
     record_with_extras(&slots, nics, targets, &given)
 }
 
+/// What a search met beside what it looked for: records with a secret, with two or more, and those that
+/// would have a shorter table if secrets could share bytes.
+#[derive(Default)]
+struct Secrets {
+    one: usize,
+    several: usize,
+    dearer: usize,
+}
+
+impl Secrets {
+    fn count(&mut self, wanted: &[Wanted]) {
+        let secrets = wanted.iter().filter(|string| string.is_secret).count();
+        self.one += usize::from(secrets > 0);
+        self.several += usize::from(secrets > 1);
+    }
+
+    /// A search that never met a secret, or none that costs a byte, would say nothing of the rule.
+    fn are_enough(&self) -> bool {
+        println!(
+            "    {} with a secret, {} with several; {} would be shorter if secrets shared bytes",
+            self.one, self.several, self.dearer
+        );
+        assert!(self.one > 0 && self.several > 0, "least: no secret was met");
+        assert!(self.dearer > 0, "least: no secret costs a byte");
+        true
+    }
+}
+
 /// Every choice of up to four strings, in every order: no heap is shorter than the built one.
 fn strings_take_least() -> bool {
     let all = short_texts();
     let mut seeded = Seeded::new(0x1EA5);
     let (mut records, mut tried) = (0, 0);
+    let mut secrets = Secrets::default();
     for count in 1..=4u32 {
         for choice in 0..all.len().pow(count) {
             let number = |i: u32| choice / all.len().pow(i) % all.len();
             let texts: Vec<&Vec<u8>> = (0..count).map(|i| &all[number(i)]).collect();
-            let table = built(&with_any_owners(&mut seeded, &texts));
+            let given = with_any_owners(&mut seeded, &texts);
+            let wanted = wanted_strings(&given);
+            let table = built(&given);
             let size = table.length() - heap_start(&table.bytes) as usize;
-            let shorter = can_place(&texts, &mut vec![None; size - 1], &mut tried);
-            let as_built = can_place(&texts, &mut vec![None; size], &mut tried);
+            let mut in_heap = |wanted: &[Wanted], size: usize| {
+                can_place(wanted, &mut vec![Cell::Free; size], &mut tried)
+            };
+            let shorter = in_heap(&wanted, size - 1);
+            let as_built = in_heap(&wanted, size);
             if shorter || !as_built {
                 println!("least: strings {:?}: built heap of {} bytes", texts, size);
                 println!("  shorter {}, as long {}", shorter, as_built);
                 return false;
             }
             records += 1;
+            secrets.count(&wanted);
+            let if_shared = in_heap(&without_secrets(&wanted), size - 1);
+            secrets.dearer += usize::from(if_shared);
         }
     }
     println!(
         "  strings: {} records, {} places tried, none shorter",
         records, tried
     );
-    true
+    secrets.are_enough()
 }
 
 // ---- Whole tables ----
@@ -324,51 +409,55 @@ struct EveryHeap<'a> {
     size: usize,
     tables: usize,
     accepted: usize,
+    /// Those that are accepted and read as the record: where secrets share bytes, and where they do not.
+    sharing: usize,
+    apart: usize,
 }
 
 impl EveryHeap<'_> {
-    /// How many of the tables are accepted and read as the record.
-    fn that_read_as_the_record(&mut self) -> usize {
+    fn try_all(&mut self) {
         let given = self.given.clone();
-        let mut found = 0;
         for choice in 0..3usize.pow(self.size as u32) {
             let byte = |i: usize| b"\0ab"[choice / 3usize.pow(i as u32) % 3];
             let heap: Vec<u8> = (0..self.size).map(byte).collect();
             self.table.write(self.heap, &heap);
-            found += self.with_every_offset(&given.present_entries());
+            self.with_every_offset(&given.present_entries());
         }
-        found
     }
 
-    fn with_every_offset(&mut self, entries: &[usize]) -> usize {
+    fn with_every_offset(&mut self, entries: &[usize]) {
         match entries.split_first() {
             Some((entry, others)) => {
                 let (length, _) = self.given.words(*entry);
-                let mut found = 0;
                 for offset in self.heap..self.heap + self.size {
                     self.table.point(*entry, offset, length);
-                    found += self.with_every_offset(others);
+                    self.with_every_offset(others);
                 }
-                found
             }
-            None => usize::from(self.reads_as_the_record()),
+            None => self.try_one(),
         }
     }
 
-    fn reads_as_the_record(&mut self) -> bool {
+    fn try_one(&mut self) {
         self.tables += 1;
         self.table.mend();
         if !is_accepted(&self.table) {
-            return false;
+            return;
         }
         self.accepted += 1;
         let record = record_given(&self.given.record, self.given.strings());
-        record_read(self.table.lent_bytes()) == Some(record)
+        if record_read(self.table.lent_bytes()) != Some(record) {
+            return;
+        }
+        match secrets_are_apart(self.table.lent_bytes()) {
+            true => self.apart += 1,
+            false => self.sharing += 1,
+        }
     }
 }
 
-/// Tables of the record whose heap has `size` bytes; counts how many read as the record.
-fn try_every_heap<'a>(given: &'a Given, built: &Table, size: usize) -> (usize, EveryHeap<'a>) {
+/// Tables of the record whose heap has `size` bytes.
+fn try_every_heap<'a>(given: &'a Given, built: &Table, size: usize) -> EveryHeap<'a> {
     let heap = heap_start(&built.bytes) as usize;
     let mut table = built.clone();
     table.bytes.resize(heap + size, 0);
@@ -381,8 +470,11 @@ fn try_every_heap<'a>(given: &'a Given, built: &Table, size: usize) -> (usize, E
         size,
         tables: 0,
         accepted: 0,
+        sharing: 0,
+        apart: 0,
     };
-    (every.that_read_as_the_record(), every)
+    every.try_all();
+    every
 }
 
 /// Records of two strings, and of three shorter ones, whose heap has few bytes.
@@ -401,35 +493,41 @@ fn few_bytes(seeded: &mut Seeded, count: usize, most: usize) -> (Given, Table) {
     }
 }
 
-/// No table with a shorter heap is accepted and reads as the record; some of the built Length are.
+/// No table with a shorter heap, its secrets apart, is accepted and reads as the record; some of the built
+/// Length are.
 fn whole_tables_are_least() -> bool {
     let mut seeded = Seeded::new(0x1EA57);
     let (mut records, mut tables, mut accepted, mut with_extras) = (0, 0, 0, 0);
+    let mut secrets = Secrets::default();
     for (count, most, times) in [(1, 4, 6), (2, 6, 24), (2, 7, 6), (3, 5, 16)] {
         for _ in 0..times {
             let (given, table) = few_bytes(&mut seeded, count, most);
             let built_size = table.length() - heap_start(&table.bytes) as usize;
             records += 1;
             with_extras += usize::from(!given.extra_slots().is_empty());
+            secrets.count(&wanted_strings(&given));
+            let mut is_dearer = false;
             for size in 0..=built_size {
-                let (found, every) = try_every_heap(&given, &table, size);
+                let every = try_every_heap(&given, &table, size);
                 tables += every.tables;
                 accepted += every.accepted;
-                if (found > 0) != (size == built_size) {
+                is_dearer |= every.sharing > 0 && size < built_size;
+                if (every.apart > 0) != (size == built_size) {
                     println!(
                         "least: heap of {} bytes, built {}: {} tables",
-                        size, built_size, found
+                        size, built_size, every.apart
                     );
                     return false;
                 }
             }
+            secrets.dearer += usize::from(is_dearer);
         }
     }
     println!(
         "  whole tables: {} records, {} with extras, {} tables tried, {} accepted, none shorter reads as its record",
         records, with_extras, tables, accepted
     );
-    with_extras > 0
+    secrets.are_enough() && with_extras > 0
 }
 
 pub fn compare() -> bool {

@@ -89,7 +89,8 @@ fn compare_one(input: &mut Input, shown: &mut usize) -> bool {
 
 // ---- Places ----
 
-fn entry_viewed(table: &Table, entry: usize) -> Vec<u8> {
+/// What the library's view of an entry shows.
+pub fn entry_viewed(table: &Table, entry: usize) -> Vec<u8> {
     let bytes = table.lent_bytes();
     let view = viewed(library::test_entry_view, bytes.as_ptr(), bytes.len(), entry as u8, OUT_SIZE);
     view.expect("a byte beside the view is changed").1

@@ -1,7 +1,8 @@
 /*
  * The build as firmware calls it: a record is filled in, built into as many
  * bytes as it takes and into one less, checked, and read back; so is one with
- * extras; then refusals are met, each with its place.
+ * extras; secrets are wiped, and what stands beside them is read; then refusals
+ * are met, each with its place.
  */
 #include <bootfw.h>
 
@@ -178,6 +179,48 @@ static void builds_extras(void)
     printf("firmware_build: NIC 5 and Target 9 built into %u bytes\n", (unsigned)LENGTH);
 }
 
+/* As a driver does after login: the bytes of a secret and its zero byte. */
+static void wipe(uint8_t *table, struct ibft_entry secret)
+{
+    memset(table + secret.offset, 0xFF, secret.length + 1u);
+}
+
+/* Target 0 whose CHAP secret is the same string as its name, and whose reverse CHAP secret is
+ * empty. Each of the two has bytes of its own, and a zero byte of its own. */
+static void keeps_secrets_apart(void)
+{
+    enum { SIZE = sizeof "depot7", LENGTH = HEAP + SIZE + SIZE + 1 };
+    static const uint8_t strings[] = "depot7";
+    struct ibft_record record = { 0 };
+    static uint8_t wide[LENGTH];
+    struct ibft_target target;
+    uint64_t answer;
+
+    record.slot_present[IBFT_SLOT_TARGET0] = IBFT_PRESENT;
+    record.entry_present[IBFT_ENTRY_TARGET0_NAME] = IBFT_PRESENT;
+    record.target0.name.length = SIZE - 1;
+    record.entry_present[IBFT_ENTRY_TARGET0_CHAP_SECRET] = IBFT_PRESENT;
+    record.target0.chap_secret.length = SIZE - 1;
+    record.entry_present[IBFT_ENTRY_TARGET0_REVERSE_CHAP_SECRET] = IBFT_PRESENT;
+    answer = ibft_build((const uint8_t *)&record, sizeof record, strings, sizeof strings - 1,
+                        wide, LENGTH - 1);
+    expect(answer == IBFT_REFUSED_ROOM, "140 bytes are too few");
+    answer = ibft_build((const uint8_t *)&record, sizeof record, strings, sizeof strings - 1,
+                        wide, LENGTH);
+    expect(answer == (uint64_t)LENGTH << 32, "the Length is 141");
+    memcpy(&target, wide + TARGET, sizeof target);
+    expect(target.name.offset == HEAP, "where the name stands");
+    expect(target.chap_secret.offset == HEAP + SIZE, "where the secret stands");
+    expect(target.reverse_chap_secret.offset == HEAP + SIZE + SIZE, "where the reverse one stands");
+    expect(strcmp((char *)wide + target.chap_secret.offset, "depot7") == 0, "the secret");
+    wipe(wide, target.chap_secret);
+    expect(strcmp((char *)wide + target.name.offset, "depot7") == 0, "the name stays");
+    expect(wide[target.reverse_chap_secret.offset] == 0, "the reverse secret stays");
+    wipe(wide, target.reverse_chap_secret);
+    expect(strcmp((char *)wide + target.name.offset, "depot7") == 0, "the name stays then too");
+    printf("firmware_build: secrets wiped, and nothing else\n");
+}
+
 static void expect_refused(const char *what, const struct ibft_record *record, size_t record_size,
                            enum ibft_refusal number, uint32_t place)
 {
@@ -264,6 +307,7 @@ int main(void)
     wants_133_bytes();
     reads_back();
     builds_extras();
+    keeps_secrets_apart();
     refuses_contents();
     refuses_strings();
     passes_by_what_is_no_part();

@@ -260,6 +260,27 @@ static void names_target_strings(void)
     }
 }
 
+/* Five strings of the same letter: those that are no secret share its byte and its zero
+ * byte, each secret has its own. */
+static void keeps_secrets_apart(void)
+{
+    const size_t start = IBFT_FIRST_START, heap = start + sizeof(struct ibft_target);
+    struct ibft_target target;
+    unsigned string;
+
+    about = "secrets of an extra target";
+    clear_extras();
+    for (string = 0; string < IBFT_TARGET_STRINGS; string++)
+        give_target_string(0, 0, string, 1);
+    expect_built_extras(0, 1, heap + 3 * 2);
+    memcpy(&target, room + start, sizeof target);
+    expect(target.name.offset == heap, "the name");
+    expect(target.chap_name.offset == heap, "the CHAP name");
+    expect(target.chap_secret.offset == heap + 2, "the CHAP secret");
+    expect(target.reverse_chap_name.offset == heap, "the reverse CHAP name");
+    expect(target.reverse_chap_secret.offset == heap + 4, "the reverse CHAP secret");
+}
+
 static void names_largest(void)
 {
     const unsigned most = IBFT_MOST_EXTRAS;
@@ -530,6 +551,7 @@ void compare_extras(void)
     names_tables();
     names_numbers();
     names_target_strings();
+    keeps_secrets_apart();
     names_largest();
     names_no_extras();
     passes_by_the_rest();

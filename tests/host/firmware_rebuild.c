@@ -1,6 +1,6 @@
 /*
  * The rebuild as firmware calls it: tables that other firmware left are rebuilt
- * into as many bytes as they then take and into one less; so are one that gets
+ * into as many bytes as they then take and into one less; so are two that get
  * longer and one with extras; then refusals are met, each with its place.
  *
  *   firmware_rebuild FOLDER    FOLDER has the tables: samples/ of this repository
@@ -169,6 +169,29 @@ static void rebuilds_longer(void)
     printf("firmware_rebuild: the initiator last: 4 bytes longer\n");
 }
 
+/* Target 0, whose name and CHAP secret are the same bytes. Rebuilt the secret has bytes of its
+ * own, behind the name. */
+static void rebuilds_shared_secret(void)
+{
+    enum { TARGET = 72, HEAP = 126, SIZE = sizeof "depot7", LENGTH = HEAP + SIZE };
+    const struct ibft_entry words = { .length = SIZE - 1, .offset = HEAP };
+    struct ibft_target target;
+
+    lay_control(LENGTH, 0);
+    lay_structure(IBFT_SLOT_TARGET0, TARGET, IBFT_ID_TARGET, sizeof target, 0);
+    memcpy(table + TARGET + offsetof(struct ibft_target, name), &words, sizeof words);
+    memcpy(table + TARGET + offsetof(struct ibft_target, chap_secret), &words, sizeof words);
+    memcpy(table + HEAP, "depot7", SIZE);
+    mend_sum(LENGTH);
+    expect(ibft_check(table, LENGTH) == 0, "the check accepts a secret that shares bytes");
+    rebuilds(LENGTH, LENGTH + SIZE);
+    memcpy(&target, room + TARGET, sizeof target);
+    expect(target.name.offset == HEAP, "where the name stands");
+    expect(target.chap_secret.offset == HEAP + SIZE, "where the secret stands");
+    expect(memcmp(room + HEAP, "depot7\0depot7", SIZE + SIZE) == 0, "the heap");
+    printf("firmware_rebuild: a secret that shared 7 bytes: 7 bytes longer\n");
+}
+
 /* Twelve extra words, three of them used: by Target 9, NIC 5 and NIC 2, whose structures stand
  * in another order. Rebuilt it is NIC 2 at 72, NIC 5 at 176 and Target 9 at 280, in words 5, 6
  * and 7. */
@@ -241,6 +264,7 @@ int main(int argc, char **argv)
     expect(argc == 2, "the folder of the tables is to be named");
     rebuilds_samples(argv[1]);
     rebuilds_longer();
+    rebuilds_shared_secret();
     rebuilds_extras();
     refuses(argv[1]);
     return 0;

@@ -61,6 +61,11 @@ fn good_table_of(seeded: &mut Seeded, mut wanted: Vec<Wanted>, extra_words: usiz
 /// A good table with nothing to spare: structures stand one behind the other as close as they may, in any
 /// order, every extra word is used, and each string stands right behind the one before.
 pub fn packed_table(seeded: &mut Seeded) -> Table {
+    packed_table_where(seeded, |_| true)
+}
+
+/// The same, where only entries that `may_have` says have a string.
+pub fn packed_table_where(seeded: &mut Seeded, may_have: fn(&Entry) -> bool) -> Table {
     let mut wanted = any_named(seeded);
     let any = any_extra_words(seeded);
     let extra_words = seeded.one_of(&[0, 0, any]);
@@ -77,7 +82,7 @@ pub fn packed_table(seeded: &mut Seeded) -> Table {
     let entries = table.entries();
     let odds = seeded.one_of(&[1, 2, 8]);
     for number in table.owned_entries() {
-        if seeded.once_in(odds) {
+        if may_have(&entries[number]) && seeded.once_in(odds) {
             let text = any_text(seeded, &entries[number], 40);
             table.append_text(number, &text);
         }

@@ -1,5 +1,6 @@
-//! Rebuilds of tables that are known by name: worked cases, tables that firmware wrote, one that gets
-//! longer, and strings with a zero byte, with the answers worked by hand.
+//! Rebuilds of tables that are known by name: worked cases, tables that firmware wrote, one that gets longer by
+//! the order of its structures, those that do as their secrets share bytes, and strings with a zero byte, with
+//! the answers worked by hand.
 
 use crate::build_sights::LARGEST_LENGTH;
 use crate::compare_build::in_words;
@@ -63,6 +64,109 @@ fn zero_in_extra() -> Table {
     table.mended()
 }
 
+/// Target 0 alone, its strings from 126 on: one of them laid, and another that shares its bytes.
+fn sharing(entry: usize, text: &[u8], other: usize, offset: usize, length: usize) -> Vec<u8> {
+    let mut table = with_texts(&[2], &[(entry, text)]);
+    table.point(other, offset, length);
+    table.mended().bytes
+}
+
+/// Target 0 at 72 and the initiator behind it, at 128, so that they end at 202; the secret is the name. The
+/// other way round Target 0 starts at 152 and ends at 206.
+fn initiator_last_and_sharing() -> Table {
+    let mut table = Table::new(202);
+    table.put_structure(2, 72);
+    table.put_structure(0, 128);
+    table.append_text(2, b"depot7");
+    table.point(4, 202, 6);
+    table.mended()
+}
+
+/// Target 0 and an extra target, up to 182, and the name of the one; its secrets and those of the other,
+/// entries 15 and 17, end with it.
+fn secrets_of_extras_sharing() -> Table {
+    let mut table = structures_and_extras(&[2], 0, 1);
+    table.append_text(2, b"depot7");
+    for (entry, length) in [(4, 6), (6, 0), (15, 1), (17, 6)] {
+        table.point(entry, 188 - length, length);
+    }
+    table.mended()
+}
+
+/// Tables in which secrets share bytes, which the check accepts, and one in which they do not: by how much
+/// they grow is what secrets shared.
+fn tables_with_secrets() -> Vec<(&'static str, Vec<u8>, usize, u64)> {
+    let apart = with_texts(&[2], &[(2, b"depot7"), (4, b"depot7")]).mended();
+    let turned = with_texts(&[2], &[(4, b"depot7"), (2, b"depot7")]).mended();
+    let mut in_secret = with_texts(&[2], &[(4, b"depot7"), (5, b"crane7")]);
+    in_secret.point(3, 131, 1);
+    vec![
+        (
+            "the secret is the name",
+            sharing(2, b"depot7", 4, 126, 6),
+            133,
+            140,
+        ),
+        (
+            "the secret ends the name",
+            sharing(2, b"depot7", 4, 131, 1),
+            133,
+            135,
+        ),
+        (
+            "the name ends the secret",
+            sharing(4, b"depot7", 2, 131, 1),
+            133,
+            135,
+        ),
+        (
+            "one place for two secrets",
+            sharing(4, b"depot7", 6, 126, 6),
+            133,
+            140,
+        ),
+        (
+            "a secret ends the other",
+            sharing(6, b"depot7", 4, 131, 1),
+            133,
+            135,
+        ),
+        (
+            "a secret at a zero byte",
+            sharing(3, b"depot7", 4, 132, 0),
+            133,
+            134,
+        ),
+        (
+            "a name at a secret's zero",
+            sharing(4, b"depot7", 2, 132, 0),
+            133,
+            134,
+        ),
+        ("two empty secrets", sharing(4, b"", 6, 126, 0), 127, 128),
+        (
+            "a name that ends a secret and a name",
+            in_secret.mended().bytes,
+            140,
+            140,
+        ),
+        ("a secret apart", apart.bytes, 140, 140),
+        ("a secret apart, before the name", turned.bytes, 140, 140),
+        (
+            "the initiator last, the secret is the name",
+            initiator_last_and_sharing().bytes,
+            209,
+            220,
+        ),
+        (
+            "secrets of an extra",
+            secrets_of_extras_sharing().bytes,
+            189,
+            206,
+        ),
+    ]
+}
+
 fn known_tables() -> Vec<Known> {
     let sample = |name: &str| SAMPLES.iter().find(|s| s.name == name).unwrap().table;
     let depot = |reverse: &[u8]| with_texts(&[2], &[(3, b"depot7"), (5, reverse)]).mended();
@@ -122,6 +226,9 @@ fn known_tables() -> Vec<Known> {
             364,
         ),
     ] {
+        known.extend(rebuilt_as(name, &table, before, after));
+    }
+    for (name, table, before, after) in tables_with_secrets() {
         known.extend(rebuilt_as(name, &table, before, after));
     }
     let with_zero = |entry: usize, text: &[u8]| with_texts(&[0, 2], &[(entry, text)]).mended();

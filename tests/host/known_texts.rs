@@ -435,8 +435,9 @@ fn assert_example_target(table: &[u8]) {
     assert_eq!(string(table, &target.name), b"iqn.2026-11.example:depot7");
     assert_eq!(string(table, &target.chap_name), b"depot7");
     assert_eq!(string(table, &target.reverse_name), b"7");
+    // The secret's own zero byte is at 408; the empty one behind it has another, the table's last.
     assert_eq!(target.reverse_secret.length, 0);
-    assert_ne!(target.reverse_secret.offset, 0);
+    assert_eq!((target.reverse_secret.offset, table.len()), (409, 410));
 }
 
 /// Every field stands where the readings have it.

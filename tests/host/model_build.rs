@@ -118,10 +118,18 @@ fn check_entry(record: &[u8], strings: &[u8], entry: &GivenEntry, place: u64) ->
 // ---- The table ----
 
 pub fn table_of(record: &Record) -> Vec<u8> {
+    table_with(record, &Heap::of(record))
+}
+
+/// The table that a build would make if no string were a secret. The check accepts it too.
+pub fn table_with_no_secret(record: &Record) -> Vec<u8> {
+    table_with(record, &Heap::with_no_secret(record))
+}
+
+fn table_with(record: &Record, heap: &Heap) -> Vec<u8> {
     let kinds = record.kinds();
     let starts = starts(record);
     let heap_start = heap_start_of(record, &starts);
-    let heap = Heap::of(&record.entries);
     let mut table = vec![0; heap_start as usize];
     write_header(&mut table, record);
     write_control(&mut table, record, &starts);
@@ -219,62 +227,81 @@ fn write_structure(table: &mut [u8], record: &Record, slot: usize, start: u64) {
 
 // ---- The heap ----
 
-/// A present entry is stored unless it is the tail of a longer present entry or equals one with a
-/// lower number.
-fn is_stored(entries: &[Option<Vec<u8>>], entry: usize) -> bool {
+/// A present secret is stored. Any other present entry is, unless it is the tail of a longer one or equals
+/// one with a lower number. Secrets are not among those that it is held against: nobody shares their bytes.
+fn is_stored(entries: &[Option<Vec<u8>>], secrets: &[bool], entry: usize) -> bool {
     let text = match &entries[entry] {
         Some(text) => text,
         None => return false,
     };
     let stands_for_it = |(number, other): (usize, &Option<Vec<u8>>)| match other {
-        Some(other) => {
+        Some(other) if !secrets[number] => {
             let is_tail_of_longer = other.len() > text.len() && other.ends_with(text);
             let equals_lower = number < entry && other == text;
             is_tail_of_longer || equals_lower
         }
-        None => false,
+        _ => false,
     };
-    !entries.iter().enumerate().any(stands_for_it)
+    secrets[entry] || !entries.iter().enumerate().any(stands_for_it)
 }
 
 /// Where the strings stand: who stores bytes, by number, and what all of that comes to.
 pub struct Heap {
-    pub stored: Vec<(usize, Vec<u8>)>,
+    pub stored: Vec<Stored>,
+}
+
+/// An entry that is stored.
+pub struct Stored {
+    pub entry: usize,
+    pub text: Vec<u8>,
+    pub is_secret: bool,
 }
 
 impl Heap {
-    pub fn of(entries: &[Option<Vec<u8>>]) -> Heap {
-        let numbers = (0..entries.len()).filter(|entry| is_stored(entries, *entry));
-        let with_text = |entry: usize| (entry, entries[entry].clone().unwrap());
+    pub fn of(record: &Record) -> Heap {
+        Heap::with_secrets(record, &record.secrets())
+    }
+
+    /// The heap if no string were a secret: what secrets would share, if they could.
+    pub fn with_no_secret(record: &Record) -> Heap {
+        Heap::with_secrets(record, &vec![false; record.entries.len()])
+    }
+
+    fn with_secrets(record: &Record, secrets: &[bool]) -> Heap {
+        let entries = &record.entries;
+        let numbers = (0..entries.len()).filter(|entry| is_stored(entries, secrets, *entry));
+        let stored = numbers.map(|entry| Stored {
+            entry,
+            text: entries[entry].clone().unwrap(),
+            is_secret: secrets[entry],
+        });
         Heap {
-            stored: numbers.map(with_text).collect(),
+            stored: stored.collect(),
         }
     }
 
     /// Stored entries by number, each with one zero.
     fn bytes(&self) -> Vec<u8> {
-        let closed = self
-            .stored
-            .iter()
-            .map(|(_, text)| [text, &[0][..]].concat());
+        let closed = self.stored.iter().map(|s| [&s.text, &[0][..]].concat());
         closed.flatten().collect()
     }
 
     /// The entry that stores the bytes of an entry with this text: itself where it is stored, else
-    /// the lowest-numbered stored entry that ends with it.
+    /// the lowest-numbered stored entry, no secret, that ends with it.
     pub fn owner(&self, entry: usize, text: &[u8]) -> usize {
-        let itself = self.stored.iter().find(|(number, _)| *number == entry);
-        let ends_with_it = self.stored.iter().find(|(_, owner)| owner.ends_with(text));
-        itself.or(ends_with_it).unwrap().0
+        let itself = self.stored.iter().find(|stored| stored.entry == entry);
+        let mut others = self.stored.iter().filter(|stored| !stored.is_secret);
+        let ends_with_it = others.find(|stored| stored.text.ends_with(text));
+        itself.or(ends_with_it).unwrap().entry
     }
 
     /// Where a present entry stands, counted from the heap's start.
     fn offset(&self, entry: usize, text: &[u8]) -> u64 {
         let owner = self.owner(entry, text);
         let mut end = 0;
-        for (number, stored) in &self.stored {
-            end += stored.len();
-            if *number == owner {
+        for stored in &self.stored {
+            end += stored.text.len();
+            if stored.entry == owner {
                 break;
             }
             end += 1;

@@ -48,7 +48,7 @@ fn built(record: &Record) -> Entered {
 }
 
 /// The record as C gives it to a build. A text gives no extras.
-fn given_from(record: &Record) -> Given {
+pub fn given_from(record: &Record) -> Given {
     assert!(record.extras.is_empty());
     let mut given = Given::new(&[0; BASE_SIZE]);
     given.record[GIVEN_OEM_ID].copy_from_slice(&record.oem_id);

@@ -56,12 +56,13 @@ pub const ALIGNMENT: u64 = 8;
 pub const FIRST_START: u64 = 72;
 
 /// A string of a kind of structure: where its length stands (its offset follows), the longest it may
-/// be, and whether it is a host name.
+/// be, whether it is a host name, and whether it is a secret: a CHAP secret or a reverse CHAP secret.
 #[derive(Clone, Copy, Debug, PartialEq)]
 pub struct StringField {
     pub at: u64,
     pub longest: u64,
     pub is_host_name: bool,
+    pub is_secret: bool,
 }
 
 /// Initiator and target names, by RFC 3720; and all others.
@@ -69,22 +70,33 @@ pub const LONGEST_NAME: u64 = 223;
 pub const LONGEST_OTHER: u64 = 255;
 
 const fn name(at: u64) -> StringField {
-    text(at, LONGEST_NAME, false)
+    text(at, LONGEST_NAME)
 }
 
 const fn other(at: u64) -> StringField {
-    text(at, LONGEST_OTHER, false)
+    text(at, LONGEST_OTHER)
 }
 
 const fn host_name(at: u64) -> StringField {
-    text(at, LONGEST_OTHER, true)
+    StringField {
+        is_host_name: true,
+        ..text(at, LONGEST_OTHER)
+    }
 }
 
-const fn text(at: u64, longest: u64, is_host_name: bool) -> StringField {
+const fn secret(at: u64) -> StringField {
+    StringField {
+        is_secret: true,
+        ..text(at, LONGEST_OTHER)
+    }
+}
+
+const fn text(at: u64, longest: u64) -> StringField {
     StringField {
         at,
         longest,
-        is_host_name,
+        is_host_name: false,
+        is_secret: false,
     }
 }
 
@@ -105,7 +117,7 @@ pub const TARGET: Kind = kind(
     4,
     54,
     0b1111,
-    &[name(34), other(38), other(42), other(46), other(50)],
+    &[name(34), other(38), secret(42), other(46), secret(50)],
 );
 
 const fn kind(id: u64, length: u64, named_flags: u64, texts: &'static [StringField]) -> Kind {
@@ -151,6 +163,7 @@ pub struct Entry {
     pub at: u64,
     pub longest: u64,
     pub is_host_name: bool,
+    pub is_secret: bool,
 }
 
 /// The strings of the named structures. Those of extra structures have numbers from 13 on.
@@ -159,15 +172,15 @@ pub const ENTRIES: [Entry; 13] = [
     entry(1, host_name(98)),
     entry(2, name(34)),
     entry(2, other(38)),
-    entry(2, other(42)),
+    entry(2, secret(42)),
     entry(2, other(46)),
-    entry(2, other(50)),
+    entry(2, secret(50)),
     entry(3, host_name(98)),
     entry(4, name(34)),
     entry(4, other(38)),
-    entry(4, other(42)),
+    entry(4, secret(42)),
     entry(4, other(46)),
-    entry(4, other(50)),
+    entry(4, secret(50)),
 ];
 
 const fn entry(slot: usize, text: StringField) -> Entry {
@@ -176,6 +189,7 @@ const fn entry(slot: usize, text: StringField) -> Entry {
         at: text.at,
         longest: text.longest,
         is_host_name: text.is_host_name,
+        is_secret: text.is_secret,
     }
 }
 

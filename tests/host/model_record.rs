@@ -7,7 +7,7 @@ use crate::model_readings::accepted;
 use crate::model_record_range::*;
 use std::ops::Range;
 
-#[derive(Debug, PartialEq)]
+#[derive(Clone, Debug, PartialEq)]
 pub struct Record {
     pub oem_id: Vec<u8>,
     pub oem_table_id: Vec<u8>,
@@ -34,6 +34,12 @@ impl Record {
         named
             .chain(self.extras.iter().map(|extra| extra.kind))
             .collect()
+    }
+
+    /// By entry, whether it is a secret.
+    pub fn secrets(&self) -> Vec<bool> {
+        let entries = entries_of(&self.kinds());
+        entries.iter().map(|entry| entry.is_secret).collect()
     }
 
     /// The Index of a slot's structure.

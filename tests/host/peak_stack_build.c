@@ -6,6 +6,7 @@
 
 #include <bootfw.h>
 
+#include <stdbool.h>
 #include <stdio.h>
 #include <string.h>
 
@@ -39,17 +40,20 @@ static void measure_build(const char *what, uint64_t answer)
     measure(what, call, answer, CALL_LIMIT);
 }
 
-/* An entry: where its words and its mark stand in the range, and the longest it may be. */
+/* An entry: where its words and its mark stand in the range, the longest it may be, and whether it is
+ * a secret. */
 struct given_entry {
     size_t words, mark;
     uint16_t longest;
+    bool secret;
 };
 
 /* String n of a target whose image starts at `image`. */
 static struct given_entry of_target(size_t image, size_t marks, size_t n)
 {
     struct given_entry entry = { image + 34 + 4 * n, marks + n,
-                                 n == 0 ? IBFT_LONGEST_NAME : IBFT_LONGEST_STRING };
+                                 n == 0 ? IBFT_LONGEST_NAME : IBFT_LONGEST_STRING,
+                                 n == 2 || n == 4 };
 
     return entry;
 }
@@ -60,7 +64,7 @@ static struct given_entry entry(size_t number)
     const size_t extras = sizeof(struct ibft_record) + 2;
     const size_t nic = sizeof(struct ibft_nic) + 1, target = sizeof(struct ibft_target) + 5;
     const size_t marks = offsetof(struct ibft_record, entry_present);
-    struct given_entry found = { 0, marks + number, IBFT_LONGEST_STRING };
+    struct given_entry found = { 0, marks + number, IBFT_LONGEST_STRING, false };
     size_t image;
 
     if (number == IBFT_ENTRY_INITIATOR_NAME) {
@@ -134,12 +138,23 @@ static void give_worst_record(size_t extras)
         give_entry(i, entry(i).longest, (uint8_t)(i < 25 ? 'b' + i : 'A' + (i - 25)));
 }
 
-/* Each string is a tail of the one after, so that only the last is stored. */
-static void give_tails(size_t extras)
+/* Each string is a tail of the one after, so that of those that are no secret only the last is stored.
+ * Says how many bytes that and the secrets take. */
+static size_t give_tails(size_t extras)
 {
+    size_t secrets = 0, last = 0;
+
     give_structures(extras);
-    for (size_t i = 0; i < count_of(extras); i++)
-        give_entry(i, (uint16_t)(2 * i + 1), 'a');
+    for (size_t i = 0; i < count_of(extras); i++) {
+        const size_t length = 2 * i + 1;
+
+        give_entry(i, (uint16_t)length, 'a');
+        if (entry(i).secret)
+            secrets += length + 1;
+        else
+            last = length + 1;
+    }
+    return secrets + last;
 }
 
 static uint64_t built(uint64_t length)
@@ -159,14 +174,15 @@ static void measure_builds_of(const char *which, size_t extras, size_t heap, uin
     const size_t chap_type = extras == 0 ? offsetof(struct ibft_record, target1) + 32
                                          : RANGE_SIZE - 59 + 32;
     struct ibft_entry words;
+    size_t size;
     char name_of[96];
 
 #define MEASURE(what, answer) \
     (snprintf(name_of, sizeof name_of, "build, %s%s", which, what), measure_build(name_of, answer))
     give_structures(extras);
     MEASURE(", no strings", built(heap));
-    give_tails(extras);
-    MEASURE(", all strings tails", built(heap + 2 * last + 2));
+    size = give_tails(extras);
+    MEASURE(", all strings tails", built(heap + size));
     give_worst_record(extras);
     MEASURE(", worst record, host names with 127 dots", built(largest));
     room_size = largest - 1;

@@ -113,6 +113,8 @@ static void measure_rebuilds_of(const char *which, size_t extras, size_t heap, s
 {
     /* Without extra NICs the last string has number 12, with six 48. */
     const size_t last = extras == 0 ? IBFT_ENTRIES - 1 : LAST_ENTRY;
+    /* Of tails one is stored, and the two secrets of each target. */
+    const size_t stored = 1 + 2 * (2 + extras);
     size_t length;
     char name_of[96];
 
@@ -120,7 +122,7 @@ static void measure_rebuilds_of(const char *which, size_t extras, size_t heap, s
     (snprintf(name_of, sizeof name_of, "rebuild, %s%s", which, what), \
      measure_rebuild(name_of, size, answer))
     length = lay_tails(extras);
-    MEASURE(", all strings tails", length, rebuilt(heap + ONE_STRING));
+    MEASURE(", all strings tails", length, rebuilt(heap + stored * ONE_STRING));
     length = lay_worst(extras, heap);
     expect_length(length, largest);
     MEASURE(", host names with 127 dots", length, rebuilt(largest));

@@ -1,9 +1,13 @@
 //! The tables that are rebuilt, by shape, beside those on which the check is compared: see table_shapes.rs.
 //! Most of them have no string with a zero byte, so that they are rebuilt and not refused.
 
+use crate::good_records::{good_record, record_with_an_extra};
 use crate::good_tables::*;
+use crate::model_build::table_with_no_secret;
 use crate::model_layout::*;
+use crate::model_record::record_given;
 use crate::seeded::Seeded;
+use crate::string_stretches::stretches;
 use crate::table_damage;
 use crate::table_maker::Table;
 use crate::table_shapes::Shape;
@@ -30,6 +34,8 @@ pub const REBUILD_SHAPES: &[Shape] = &[
     ("zero bytes, and a fault", 8_000, zeros_and_fault),
     ("CHAP types, extras", 3_000, chap_types),
     ("strings too long, extras", 3_000, too_long),
+    ("built as if there were no secrets", 12_000, built_to_share),
+    ("packed, secrets end other strings", 12_000, packed_to_share),
 ];
 
 /// A table without zero bytes in its strings.
@@ -126,6 +132,36 @@ fn nested(_: usize, seeded: &mut Seeded) -> Table {
         let size_of = size_of.max(usize::from(entry.is_host_name));
         table.write_word(field, size_of);
         table.write_word(field + 2, start + size - size_of);
+    }
+    table.mended()
+}
+
+/// The table of a record in which secrets share their bytes as other strings do: what a build made before
+/// secrets had bytes of their own.
+fn built_to_share(_: usize, seeded: &mut Seeded) -> Table {
+    let given = match seeded.once_in(2) {
+        true => good_record(seeded),
+        false => record_with_an_extra(seeded),
+    };
+    let bytes = table_with_no_secret(&record_given(&given.record, given.strings()));
+    let lent = bytes.len();
+    Table { bytes, lent }
+}
+
+/// Nothing to spare and no byte for secrets alone: each that there is stands at the end of another string.
+fn packed_to_share(_: usize, seeded: &mut Seeded) -> Table {
+    let mut table = clean(seeded, |s| packed_table_where(s, |entry| !entry.is_secret));
+    let strings = stretches(&table.bytes);
+    let odds = seeded.one_of(&[1, 1, 2]);
+    for (field, entry) in string_fields(&table) {
+        if strings.is_empty() || !entry.is_secret || !seeded.once_in(odds) {
+            continue;
+        }
+        let host = &strings[seeded.between(0, strings.len() - 1)].bytes;
+        let some = seeded.between(0, host.len() - 1);
+        let size = seeded.one_of(&[host.len() - 1, some, some, 0]);
+        table.write_word(field, size);
+        table.write_word(field + 2, host.end - 1 - size);
     }
     table.mended()
 }

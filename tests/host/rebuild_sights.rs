@@ -5,11 +5,12 @@ use crate::build_sights::LARGEST_LENGTH;
 use crate::model_build::built_order;
 use crate::model_layout::*;
 use crate::model_record::Record;
+use crate::string_stretches::*;
 use std::collections::BTreeMap;
 
-/// So many bytes more a table may get, by another order of its structures: an initiator has six bytes of
-/// padding behind it, a NIC or a target two, and what stands last has none. An initiator that stood last
-/// comes first.
+/// So many bytes more a table may get, beside those that its secrets saved by sharing, by another order of
+/// its structures: an initiator has six bytes of padding behind it, a NIC or a target two, and what stands
+/// last has none. An initiator that stood last comes first.
 const MOST_GROWTH: i64 = 4;
 
 /// Things that tables, rooms and answers have to have shown.
@@ -28,6 +29,12 @@ const SIGHTS: &[&str] = &[
     "other bytes than zero between strings",
     "strings that end at one zero byte",
     "equal strings at two places",
+    "a secret and another string share bytes",
+    "two secrets share bytes",
+    "a secret ends another string",
+    "another string ends a secret",
+    "an empty secret at the zero of another",
+    "secrets apart from all other strings",
     "an empty string",
     "a missing string",
     "Length past the last string",
@@ -39,6 +46,9 @@ const SIGHTS: &[&str] = &[
     "rebuilt to the same bytes",
     "rebuilt longer",
     "rebuilt longer by 4 bytes",
+    "rebuilt longer by what secrets saved",
+    "rebuilt longer by that and 4 bytes",
+    "rebuilt no longer, though secrets shared",
     "a room of just the Length",
     "a room with bytes to spare",
     "a room of 13,710 bytes or more",
@@ -82,6 +92,7 @@ pub struct RebuildSights {
     zero_owners: BTreeMap<&'static str, usize>,
     zero_numbers: BTreeMap<u64, usize>,
     growth: Option<i64>,
+    growth_beside_secrets: Option<i64>,
 }
 
 impl RebuildSights {
@@ -95,17 +106,27 @@ impl RebuildSights {
         self.see_record(record);
         self.see_structures(table);
         self.see_heap(table, record);
+        self.see_secrets(table);
         let before = &table[..length(table) as usize];
         self.see("more bytes lent than Length", table.len() > before.len());
         self.see("Length over 64 KiB", before.len() > 0x10000);
         let growth = rebuilt.len() as i64 - before.len() as i64;
+        let saved = saved_by_secrets(table) as i64;
         self.growth = self.growth.max(Some(growth));
+        self.growth_beside_secrets = self.growth_beside_secrets.max(Some(growth - saved));
         self.see("rebuilt shorter", growth < 0);
         let same = rebuilt == before;
         self.see("rebuilt as long, other bytes", growth == 0 && !same);
         self.see("rebuilt to the same bytes", same);
         self.see("rebuilt longer", growth > 0);
-        self.see("rebuilt longer by 4 bytes", growth == MOST_GROWTH);
+        let shared = saved > 0;
+        let by_order = growth == saved + MOST_GROWTH;
+        self.see("rebuilt longer by 4 bytes", by_order && !shared);
+        let by_secrets = shared && growth == saved;
+        self.see("rebuilt longer by what secrets saved", by_secrets);
+        self.see("rebuilt longer by that and 4 bytes", by_order && shared);
+        let for_nothing = shared && growth <= 0;
+        self.see("rebuilt no longer, though secrets shared", for_nothing);
         self.see("a room of just the Length", room_size == rebuilt.len());
         self.see("a room with bytes to spare", room_size > rebuilt.len());
         self.see(
@@ -200,6 +221,39 @@ impl RebuildSights {
         self.see("equal strings at two places", twice);
     }
 
+    /// What the table's secrets share, and with whom.
+    fn see_secrets(&mut self, table: &[u8]) {
+        let strings = stretches(table);
+        let has_secret = strings.iter().any(|string| string.is_secret);
+        let apart = has_secret && secrets_are_apart(table);
+        self.see("secrets apart from all other strings", apart);
+        for secret in strings.iter().filter(|string| string.is_secret) {
+            for other in strings.iter().filter(|other| other.entry != secret.entry) {
+                self.see_beside_secret(secret, other);
+            }
+        }
+    }
+
+    fn see_beside_secret(&mut self, secret: &Stretch, other: &Stretch) {
+        let shares = secret.overlaps(other);
+        self.see("two secrets share bytes", shares && other.is_secret);
+        if other.is_secret {
+            return;
+        }
+        self.see("a secret and another string share bytes", shares);
+        let is_tail = |tail: &Stretch, of: &Stretch| {
+            tail.bytes.end == of.bytes.end && tail.bytes.start > of.bytes.start
+        };
+        let is_empty = secret.bytes.len() == 1;
+        let ends_other = is_tail(secret, other);
+        self.see("a secret ends another string", ends_other && !is_empty);
+        self.see(
+            "an empty secret at the zero of another",
+            ends_other && is_empty,
+        );
+        self.see("another string ends a secret", is_tail(other, secret));
+    }
+
     /// A table whose string of this number is refused for a zero byte.
     pub fn see_zero(&mut self, record: &Record, number: u64, room_size: usize) {
         let entry = entries_of(&record.kinds())[number as usize];
@@ -222,7 +276,7 @@ impl RebuildSights {
         self.see("20 where 21 would apply", room_size < CONTROL_END as usize);
     }
 
-    /// Was everything seen, and no table that got longer by more than 4 bytes?
+    /// Was everything seen, and no table that got longer by more than 4 bytes and what its secrets saved?
     pub fn are_enough(&self) -> bool {
         let mut enough = true;
         for sight in SIGHTS {
@@ -240,11 +294,15 @@ impl RebuildSights {
             enough &= is_seen(times, &format!("20 of entry {}", number));
         }
         let growth = self.growth.unwrap_or(0);
+        let beside = self.growth_beside_secrets.unwrap_or(0);
         println!("  {:<44} {:>10} bytes", "largest growth", growth);
-        if growth > MOST_GROWTH {
-            println!("rebuild: a table got longer by {} bytes", growth);
+        let what = "largest beside what secrets saved";
+        println!("  {:<44} {:>10} bytes", what, beside);
+        if beside > MOST_GROWTH {
+            println!("rebuild: a table got longer by {} bytes", beside);
+            println!("  and by what its secrets saved");
         }
-        enough && growth <= MOST_GROWTH
+        enough && beside <= MOST_GROWTH
     }
 }
 

@@ -68,9 +68,14 @@ pub struct BuildInput {
 }
 
 /// Shows every input to `agrees`, until one does not.
-pub fn all_agree(mut agrees: impl FnMut(BuildInput) -> bool) -> bool {
+pub fn all_agree(agrees: impl FnMut(BuildInput) -> bool) -> bool {
+    some_agree(1, agrees)
+}
+
+/// Shows one input in `step` of each shape.
+pub fn some_agree(step: usize, mut agrees: impl FnMut(BuildInput) -> bool) -> bool {
     for (i, (shape, inputs, make)) in SHAPES.iter().chain(EXTRA_SHAPES).enumerate() {
-        for n in 0..*inputs {
+        for n in (0..*inputs).step_by(step) {
             let seed = 0xB000_0000_0000 + ((i as u64) << 32) + n as u64;
             let mut seeded = Seeded::new(seed);
             let given = make(n, &mut seeded);

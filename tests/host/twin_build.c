@@ -26,7 +26,7 @@ struct slot {
 
 /* A string as it is given. */
 struct text {
-    bool present;
+    bool present, secret;
     const uint8_t *bytes;
     uint32_t size;
 };
@@ -175,7 +175,8 @@ static uint64_t check_text(const struct slot *slot, uint32_t i, const uint8_t *s
         return refused(20, n);
     if (slot->kind == &c_nic && !c_is_host_name(strings + start, size))
         return refused(18, n);
-    *text = (struct text){ true, strings + start, size };
+    *text = (struct text){ true, slot->kind == &c_target && (i == 2 || i == 4), strings + start,
+                           size };
     return 0;
 }
 
@@ -210,11 +211,14 @@ static bool is_tail_from_back(const struct text *tail, const struct text *text)
     return same == tail->size;
 }
 
+/* A secret always is, and no other string is looked for in one. */
 static inline bool is_stored(const struct text *texts, uint32_t count, uint32_t i,
                              is_tail_of *is_tail_of)
 {
+    if (texts[i].secret)
+        return true;
     for (uint32_t j = 0; j < count; j++)
-        if (texts[j].present && j != i &&
+        if (texts[j].present && !texts[j].secret && j != i &&
             (texts[j].size > texts[i].size || (texts[j].size == texts[i].size && j < i)) &&
             is_tail_of(&texts[i], &texts[j]))
             return false;
@@ -256,7 +260,7 @@ static inline void plan_heap(struct plan *plan, is_tail_of *is_tail_of)
 
         if (!texts[i].present || plan->stored[i])
             continue;
-        while (!plan->stored[j] || !is_tail_of(&texts[i], &texts[j]))
+        while (!plan->stored[j] || texts[j].secret || !is_tail_of(&texts[i], &texts[j]))
             j++;
         plan->offsets[i] = plan->offsets[j] + texts[j].size - texts[i].size;
     }

@@ -35,6 +35,8 @@ struct Plan<'a> {
     slot_count: usize,
     /// By entry: none where it is missing.
     texts: [Option<&'a [u8]>; ALL_ENTRIES],
+    /// The same, and none where it is a secret: what another string may stand in.
+    hosts: [Option<&'a [u8]>; ALL_ENTRIES],
     entry_count: usize,
     control_end: usize,
     heap: usize,
@@ -205,6 +207,7 @@ fn check_record<'a>(record: &[u8]) -> Result<Plan<'a>, Refusal> {
         slots,
         slot_count,
         texts: [None; ALL_ENTRIES],
+        hosts: [None; ALL_ENTRIES],
         entry_count: 0,
         control_end: CONTROL_END + 2 * (slot_count - NAMED.len()),
         heap: 0,
@@ -235,6 +238,8 @@ fn check_texts<'a>(record: &[u8], strings: &'a [u8], plan: &mut Plan<'a>) -> Res
                     return Err(Refusal(18, n));
                 }
                 plan.texts[n] = Some(text);
+                let is_secret = slot.kind.id == 4 && (i == 2 || i == 4);
+                plan.hosts[n] = if is_secret { None } else { Some(text) };
             }
             n += 1;
         }
@@ -256,8 +261,10 @@ fn plan_structures(plan: &mut Plan) {
     }
 }
 
+/// Secrets have bytes of their own. The other strings may share theirs with each other.
 fn plan_heap(plan: &mut Plan, ends_with: impl Fn(&[u8], &[u8]) -> bool) {
     let texts = &plan.texts[..plan.entry_count];
+    let hosts = &plan.hosts[..plan.entry_count];
     plan.length = plan.heap;
     for (i, text) in texts.iter().enumerate() {
         let text = match text {
@@ -270,7 +277,8 @@ fn plan_heap(plan: &mut Plan, ends_with: impl Fn(&[u8], &[u8]) -> bool) {
             }
             _ => false,
         };
-        plan.stored[i] = !texts.iter().enumerate().any(stands_for_it);
+        let is_secret = hosts[i].is_none();
+        plan.stored[i] = is_secret || !hosts.iter().enumerate().any(stands_for_it);
         if plan.stored[i] {
             plan.offsets[i] = plan.length;
             plan.length += text.len() + 1;
@@ -279,8 +287,11 @@ fn plan_heap(plan: &mut Plan, ends_with: impl Fn(&[u8], &[u8]) -> bool) {
     for (i, text) in texts.iter().enumerate() {
         match text {
             Some(text) if !plan.stored[i] => {
-                let stored = |j: &usize| plan.stored[*j] && ends_with(texts[*j].unwrap(), text);
-                let owner = (0..texts.len()).find(stored).unwrap();
+                let stands_for_it = |j: &usize| match hosts[*j] {
+                    Some(host) => plan.stored[*j] && ends_with(host, text),
+                    None => false,
+                };
+                let owner = (0..hosts.len()).find(stands_for_it).unwrap();
                 plan.offsets[i] = plan.offsets[owner] + texts[owner].unwrap().len() - text.len();
             }
             _ => {}

@@ -86,7 +86,9 @@ module _ (r s : List ℕ) (i start size j : ℕ) (sound : Readable r s) (fits : 
       let b : List ℕ = part s (startGiven r j) (w - 1) in
       let lies = lies-at r s j sound h w (startGiven r j) want (omega arith) refl in
       is ∙ ap (λ (m : ℕ). isTail (part s start size) (part s m (w - 1))) e
-      ∙ sym (present (omega arith) (part s start size) ∙ ap (λ (m : Bool). m && covers i (part s start size) j b) may ∙ and-one (isTail (part s start size) b) (ltb (length (part s start size)) (length b)) (ltb j i) (prior (lies .length-is)))
+      ∙ sym (present (omega arith) (part s start size)
+      ∙ ap (λ (m : Bool). m && covers i (part s start size) j b) may
+      ∙ and-one (isTail (part s start size) b) (ltb (length (part s start size)) (length b)) (ltb j i) (prior (lies .length-is)))
     where
       prior : length (part s (startGiven r j) (w - 1)) ≡ w - 1 → (ltb (length (part s start size)) (length (part s (startGiven r j) (w - 1))) || ltb j i) ≡ true
       prior lb =

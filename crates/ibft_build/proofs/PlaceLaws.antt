@@ -1,14 +1,14 @@
 -- Laws of where entries stand, each shaped like what the code returns.
---     sum-none, sum-more           a loop that adds up
---     sizes-at, sizes-count        what stands in the list of the sizes
---     sizes-sum                    their sum is the heap's up to there
---     size-kept, size-gone         whether an entry is stored, by what it takes
---     host-not, host-secret, host-tail     whether an entry can hold another
---     gone-shares                  an entry that is present and not stored may share
---     host-first                   the first that does, which is below the limit
---     place-self, place-host       where an entry stands
---     offset-on, offset-off        its offset
---     offset-past                  from the limit on it has none
+--     sum-none, sum-more                   a loop that adds up
+--     sizes-at, sizes-count                what stands in the list of the sizes
+--     sizes-sum                            their sum is the heap's up to there
+--     size-kept, size-gone                 whether an entry is stored, by what it takes
+--     host-not, host-secret, host-tail     whether an entry can hold one that is not stored
+--     gone-shares                          an entry that is present and not stored may share
+--     host-first                           the first that holds it, which is below the limit
+--     place-self, place-host               where an entry stands
+--     offset-on, offset-off                its offset
+--     offset-past                          from the limit on it has none
 -- Assumes nothing.
 use mathlib.Core.Path.{_≡_, refl, sym, ap, ap₂, _∙_}
 use mathlib.Core.Bool.{Bool, true, false, _&&_, _||_}
@@ -152,7 +152,8 @@ gone-shares r s i given gone =
     and-both (mayShare i) (any entryCount p) covered .0
 
 -- entries from the limit on are missing, and hold none; but there is one that does
-pub host-first : (r s : List ℕ) (i : ℕ) → i < entryCount → entryGiven r i ≡ true → stored entryCount mayShare (entriesGiven r s) i ≡ false → (start size j : ℕ) → start ≡ startGiven r i → size ≡ lengthGiven r i → j ≤ entryLimit r
+pub host-first : (r s : List ℕ) (i : ℕ) → i < entryCount → entryGiven r i ≡ true → stored entryCount mayShare (entriesGiven r s) i ≡ false
+    → (start size j : ℕ) → start ≡ startGiven r i → size ≡ lengthGiven r i → j ≤ entryLimit r
     → ((k : ℕ) → k < j → canHold r s (part s start size) k ≡ false)
     → (t : Bool) → t ≡ canHold r s (part s start size) j → (j < entryLimit r → t ≡ true)
     → j ≡ host entryCount mayShare (entriesGiven r s) i (bytesGiven r s i)
