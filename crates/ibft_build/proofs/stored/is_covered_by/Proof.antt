@@ -29,7 +29,7 @@ returns-2 c =
     covered-late _ _ _ _ _ _ (p .0) (p .3) h _ (wanted-at _ _ (p .1) _ h) (omega arith) (omega arith)
 
 returns-3 : tie.Need-returns-3
-returns-3 c = covered-secret _ _ _ _ (sym (c .before .may-share .ensures) ∙ not-true _ (c .if4 .taken))
+returns-3 c = covered-secret _ _ (c .before .before .before .before .before .before .before .before .before .args .j) _ (sym (c .before .may-share .ensures) ∙ not-true _ (c .if4 .taken))
 
 start-at-requires : tie.Need-start-at-requires
 start-at-requires c κs = let p = c .before .before .before .before .before .before .before .before .before .pre in (p .2, p .4)
