@@ -3,7 +3,7 @@
 --     wiped-record     so the table reads as the same record, but for the bytes of that secret
 --     wipes-alone      the promise
 -- Assumes nothing.
-use mathlib.Core.Path.{_≡_, refl, sym, ap, ap₂, _∙_}
+use mathlib.Core.Path.{_≡_, sym, ap, ap₂, _∙_}
 use mathlib.Core.Logic.{⊎-elim}
 use mathlib.Core.Bool.{true, false}
 use mathlib.Core.Option.{Option, some}
@@ -12,23 +12,23 @@ use Prim.Native.Nat.{ℕ, _+_, _≤_, _<_}
 use native.Mathlib.Omega.{arith}
 use lib.ListN.{length, take, set}
 use Rattle.octets.specs.Counting.{tabulate}
-use Rattle.octets.specs.Octets.{byte, part, write}
+use Rattle.octets.specs.Octets.{part, write}
 use Rattle.octets.proofs.CountingLaws.{tabulate-same, tabulate-set}
 use Rattle.octets.proofs.ReadLaws.{part-whole}
-use Rattle.octets.proofs.WriteLaws.{length-write, write-before, part-before, part-after, part-written}
+use Rattle.octets.proofs.WriteLaws.{length-write, part-before, part-after, part-written}
 use Rattle.ibft_table.specs.Layout.{slotCount, entryCount, mayShare}
-use Rattle.ibft_table.specs.Table.{heapOf, startsOf, sizeOf, offsetOf, holdsEntry}
+use Rattle.ibft_table.specs.Table.{heapOf, sizeOf, offsetOf, holdsEntry}
 use Rattle.ibft_table.specs.Check.{checkOf}
 use Rattle.ibft_table.specs.Record.{listed, contentIn, contentOf, recordOf}
 use Rattle.ibft_table.specs.Secrets.{secretsApart}
 use Rattle.ibft_table.specs.declared.verdict.Verdict.the-variants.{Accepted}
-use Rattle.ibft_table.proofs.CheckLaws.{heap-after-control}
 use Rattle.ibft_laws.specs.Begins.{Begins}
-use Rattle.ibft_laws.proofs.TableLaws.{facts, length-le, heap-start-le, holds-below, entry-kept}
+use Rattle.ibft_laws.proofs.TableLaws.{length-le, holds-below, entry-kept}
 use Rattle.ibft_laws.proofs.RecordLaws.{shown-same}
 use Rattle.ibft_laws.proofs.SecretsLaws.{apart-secret}
+use Rattle.ibft_laws.proofs.BeginsLaws.{byte-same, part-same}
+use Rattle.ibft_laws.proofs.FrontLaws.{front-least, front-index, front-structure, front-holds, front-size, front-offset}
 use Rattle.build_rules.specs.WipePromises.{withEntry, WipesAlone}
-use Rattle.ibft_laws.proofs.FrontLaws.{front-index, front-structure, front-holds, front-size, front-offset}
 
 module _
     (t : List ℕ) (ok : checkOf t ≡ Accepted) (apart : secretsApart t ≡ true)
@@ -56,19 +56,6 @@ module _
           long = omega (arith, length-write t (offsetOf t n) xs, inside);
           same = sym (part-whole (write t (offsetOf t n) xs) (heapOf t)) ∙ part-before t (offsetOf t n) xs 0 (heapOf t) inside (omega (arith, low)) ∙ part-whole t (heapOf t);
         }
-
-    -- ---- what stands below the heap
-
-    first : 66 ≤ heapOf t
-    first = omega (arith, heap-after-control t, facts t ok .control .long)
-
-    head-part : (i m : ℕ) → i + m ≤ 66 → part wiped i m ≡ part t i m
-    unfolding wiped
-    head-part i m h = part-before t (offsetOf t n) xs i m (omega (arith, first, low, high)) (omega (arith, first, low))
-
-    head-byte : (i : ℕ) → i < 66 → byte wiped i ≡ byte t i
-    unfolding wiped
-    head-byte i h = write-before t (offsetOf t n) xs i (omega (arith, first, low))
 
     -- ---- the strings
 
@@ -99,15 +86,16 @@ module _
     pub wiped-record : recordOf (write t (offsetOf t n) xs) ≡ withEntry n (take (sizeOf t n) xs) (recordOf t)
     unfolding wiped recordOf listed contentOf contentIn
     wiped-record =
+        let least = front-least t wiped ok front in
         let structures = tabulate-same ((contentOf wiped) .structure) ((contentOf t) .structure) 0 slotCount (λ k l h. front-structure t wiped ok front k (omega arith)) in
         let indices = tabulate-same ((contentOf wiped) .index) ((contentOf t) .index) 0 slotCount (λ k l h. front-index t wiped ok front k (omega arith)) in
         let entries =
         tabulate-set ((contentOf t) .entry) ((contentOf wiped) .entry) entryCount n below other
         ∙ ap (λ (a : Option (List ℕ)). set (tabulate ((contentOf t) .entry) 0 entryCount) n a) own in
         λ i. record {
-          oemId = head-part 10 6 (omega arith) i;
-          oemTableId = head-part 16 8 (omega arith) i;
-          flags = head-byte 53 (omega arith) i;
+          oemId = part-same wiped t (heapOf t) front 10 6 (omega (arith, least)) i;
+          oemTableId = part-same wiped t (heapOf t) front 16 8 (omega (arith, least)) i;
+          flags = byte-same wiped t (heapOf t) front 53 (omega (arith, least)) i;
           structures = structures i;
           indices = indices i;
           entries = entries i;

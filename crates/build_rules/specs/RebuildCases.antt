@@ -23,12 +23,12 @@ summed t = write t 9 (checksum t 9 ∷ [])
 
 -- a structure without fields: Target 0 without a name, with the words of its CHAP name and secret, its reverse name and secret; the
 -- same without secrets; the initiator without a name
-guarded : List ℕ → List ℕ → List ℕ → List ℕ → List ℕ
-guarded chap secret reverse reverse-secret =
+withSecrets : List ℕ → List ℕ → List ℕ → List ℕ → List ℕ
+withSecrets chap secret reverse reverse-secret =
     4 ∷ 1 ∷ (le16 54 ++ (0 ∷ 1 ∷ (zeros 28 ++ (zeros 4 ++ (chap ++ (secret ++ (reverse ++ reverse-secret)))))))
 
 target : List ℕ → List ℕ → List ℕ
-target chap reverse = guarded chap (zeros 4) reverse (zeros 4)
+target chap reverse = withSecrets chap (zeros 4) reverse (zeros 4)
 
 initiator : List ℕ
 initiator = 2 ∷ 1 ∷ (le16 74 ++ (0 ∷ 1 ∷ (zeros 64 ++ zeros 4)))
@@ -56,7 +56,7 @@ targetFirst = summed (header 202 1 ++ (control 128 72 ++ (zeros 6 ++ (target (ze
 -- Target 0 with these words, and `depot7` as the heap
 sharing : List ℕ → List ℕ → List ℕ → List ℕ → List ℕ
 sharing chap secret reverse reverse-secret =
-    summed (header 133 1 ++ (control 0 72 ++ (zeros 6 ++ (guarded chap secret reverse reverse-secret ++ (depot7 ++ (0 ∷ []))))))
+    summed (header 133 1 ++ (control 0 72 ++ (zeros 6 ++ (withSecrets chap secret reverse reverse-secret ++ (depot7 ++ (0 ∷ []))))))
 
 -- ---- cases
 
@@ -98,14 +98,14 @@ answered c =
     a .refusal .number ∷ a .refusal .place ∷ a .length ∷ []
 
 rebuilds : map answered cases ≡ map (λ (c : Case). c .answer) cases
-unfolding computing cases answered row twice targetFirst sharing summed header control guarded target initiator words depot7 de·ot7
+unfolding computing cases answered row twice targetFirst sharing summed header control withSecrets target initiator words depot7 de·ot7
 rebuilds = refl
 
 -- ---- what the room holds
 
 -- refused, all of it as it was
 refused-kept : rebuildRoom (twice 1 de·ot7) (7 ∷ 8 ∷ 9 ∷ []) ≡ 7 ∷ 8 ∷ 9 ∷ []
-unfolding computing twice summed header control guarded target words depot7 de·ot7
+unfolding computing twice summed header control withSecrets target words depot7 de·ot7
 refused-kept = refl
 
 -- accepted, both names are one, and room past Length is kept
@@ -113,12 +113,12 @@ once : List ℕ
 once = summed (header 133 1 ++ (control 0 72 ++ (zeros 6 ++ (target (words 6 126) (words 6 126) ++ (depot7 ++ (0 ∷ []))))))
 
 rebuilt-once : rebuildRoom (twice 1 depot7) (zeros 133 ++ (7 ∷ [])) ≡ once ++ (7 ∷ [])
-unfolding computing once twice summed header control guarded target words depot7
+unfolding computing once twice summed header control withSecrets target words depot7
 rebuilt-once = refl
 
 -- rebuilt again it stays
 settles : take 133 (rebuildRoom once (zeros 140)) ≡ once
-unfolding computing once summed header control guarded target words depot7
+unfolding computing once summed header control withSecrets target words depot7
 settles = refl
 
 -- the CHAP name `depot7`, the secret `7`, the reverse name `7`, an empty reverse secret: the reverse name is the tail of the CHAP name,
@@ -127,8 +127,8 @@ apart : List ℕ
 apart =
     summed (header 136 1
     ++ (control 0 72
-    ++ (zeros 6 ++ (guarded (words 6 126) (words 1 133) (words 1 131) (words 0 135) ++ (depot7 ++ (0 ∷ 55 ∷ 0 ∷ 0 ∷ []))))))
+    ++ (zeros 6 ++ (withSecrets (words 6 126) (words 1 133) (words 1 131) (words 0 135) ++ (depot7 ++ (0 ∷ 55 ∷ 0 ∷ 0 ∷ []))))))
 
 rebuilt-apart : rebuildRoom (sharing (words 6 126) (words 1 131) (words 1 131) (words 0 132)) (zeros 136 ++ (7 ∷ [])) ≡ apart ++ (7 ∷ [])
-unfolding computing apart sharing summed header control guarded words depot7
+unfolding computing apart sharing summed header control withSecrets words depot7
 rebuilt-apart = refl

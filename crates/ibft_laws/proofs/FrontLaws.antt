@@ -1,5 +1,6 @@
 -- What stands below the heap of an accepted table stands in every list that begins with its bytes up to there: all of it but the bytes of
 -- the strings.
+--     front-least                                    header and Control are below it
 --     front-starts, front-index, front-structure     starts by slot, Indices, structures
 --     front-holds, front-size, front-offset          which entries are present, and their words
 -- Assumes nothing.
@@ -25,15 +26,15 @@ use Rattle.ibft_laws.proofs.BeginsLaws.{starts-same, present-same, stru
 use Rattle.ibft_laws.proofs.BeginsVerdictLaws.{kind-long}
 
 module _ (t u : List ℕ) (ok : checkOf t ≡ Accepted) (like : Begins u t (heapOf t)) where
-  least : 66 ≤ heapOf t
-  least = omega (arith, heap-after-control t, facts t ok .control .long)
+  pub front-least : 66 ≤ heapOf t
+  front-least = omega (arith, heap-after-control t, facts t ok .control .long)
 
   six : (w : ℕ) → w < wordCount t → usedAt t w ≡ true → startAt t w + 6 ≤ heapOf t
   unfolding endAt
   six w h on = omega (arith, word-end t w h on, kind-long t w)
 
   pub front-starts : startsOf u ≡ startsOf t
-  front-starts = starts-same t u (heapOf t) least like (heap-after-control t) six
+  front-starts = starts-same t u (heapOf t) front-least like (heap-after-control t) six
 
   -- ---- structures
 
@@ -44,17 +45,17 @@ module _ (t u : List ℕ) (ok : checkOf t ≡ Accepted) (like : Begins u t (heap
       go : (b : Bool) → present t k ≡ b
           → cond (ltb k namedCount) (indexOf k) (cond (present u k) (byte u (startOf u k + 4)) 0)
           ≡ cond (ltb k namedCount) (indexOf k) (cond (present t k) (byte t (startOf t k + 4)) 0)
-      go false off = rw (present-same t u (heapOf t) least like front-starts k, off)
+      go false off = rw (present-same t u (heapOf t) front-least like front-starts k, off)
       go true on =
           let fits = slot-fits k h in
           let flags = fits .flags in
-          rw (present-same t u (heapOf t) least like front-starts k, on, structure-byte-same t u (heapOf t) least like front-starts k (heap-end t ok k h on) 4 (omega (arith, fits .words)))
+          rw (present-same t u (heapOf t) front-least like front-starts k, on, structure-byte-same t u (heapOf t) front-least like front-starts k (heap-end t ok k h on) 4 (omega (arith, fits .words)))
 
   pub front-structure : (k : ℕ) → k < slotCount → (contentOf u) .structure k ≡ (contentOf t) .structure k
   unfolding contentOf contentIn
   front-structure k h =
-      shown-same (present u k) (present t k) _ _ (present-same t u (heapOf t) least like front-starts k)
-      (λ on. structure-part-same t u (heapOf t) least like front-starts k (heap-end t ok k h on) 5 (bodySize (kindOf k)) (omega (arith, slot-fits k h .flags, slot-fits k h .words)))
+      shown-same (present u k) (present t k) _ _ (present-same t u (heapOf t) front-least like front-starts k)
+      (λ on. structure-part-same t u (heapOf t) front-least like front-starts k (heap-end t ok k h on) 5 (bodySize (kindOf k)) (omega (arith, slot-fits k h .flags, slot-fits k h .words)))
 
   -- ---- entries
 
@@ -63,10 +64,10 @@ module _ (t u : List ℕ) (ok : checkOf t ≡ Accepted) (like : Begins u t (heap
     owner-end on = heap-end t ok (ownerOf n) (entry-fits n h .owner) on
 
     pub front-holds : holdsEntry u n ≡ holdsEntry t n
-    front-holds = holds-same t u (heapOf t) least like front-starts n h owner-end
+    front-holds = holds-same t u (heapOf t) front-least like front-starts n h owner-end
 
     pub front-size : holdsEntry t n ≡ true → sizeOf u n ≡ sizeOf t n
-    front-size on = size-same t u (heapOf t) least like front-starts n h (owner-end (entry-owner-on t n on))
+    front-size on = size-same t u (heapOf t) front-least like front-starts n h (owner-end (entry-owner-on t n on))
 
     pub front-offset : holdsEntry t n ≡ true → offsetOf u n ≡ offsetOf t n
-    front-offset on = offset-same t u (heapOf t) least like front-starts n h (owner-end (entry-owner-on t n on))
+    front-offset on = offset-same t u (heapOf t) front-least like front-starts n h (owner-end (entry-owner-on t n on))

@@ -3,7 +3,7 @@
 --     apart-entries                   any two entries stand apart of which one may not share
 -- Assumes nothing.
 use mathlib.Core.Path.{_≡_, refl, sym, ap, _∙_}
-use mathlib.Core.Logic.{_⊎_, inl, inr, ⊎-elim}
+use mathlib.Core.Logic.{inl, inr, ⊎-elim}
 use mathlib.Core.Bool.{Bool, true, false, not, _&&_}
 use mathlib.Core.List.{List}
 use Prim.Native.Nat.{ℕ, _+_, _<_}
@@ -17,7 +17,7 @@ use Rattle.octets.proofs.TestLaws.{and-both, and-other, and-no, same-differs, u
 use Rattle.string_heap.proofs.Intervals.{Apart}
 use Rattle.ibft_table.specs.Layout.{entryCount, stringOf, mayShare}
 use Rattle.ibft_table.specs.Table.{startsOf, sizeOf, offsetOf, holdsEntry}
-use Rattle.ibft_table.specs.Secrets.{touches, sharedIf, shared, apartIn, secretsApart}
+use Rattle.ibft_table.specs.Secrets.{overlaps, sharedIf, shared, apartIn, secretsApart}
 
 -- ---- two stretches share a byte where each starts before the other ends
 
@@ -42,18 +42,18 @@ module _ (t : List ℕ) where
 
   pub apart-secret : secretsApart t ≡ true → (i j : ℕ) → i < entryCount → j < entryCount → (i ≡ j → ⊥)
       → mayShare i ≡ false → holdsEntry t i ≡ true → holdsEntry t j ≡ true → EntriesApart i j
-  unfolding secretsApart apartIn shared sharedIf touches mayShare
+  unfolding secretsApart apartIn shared sharedIf overlaps mayShare
   apart-secret apart i j hi hj ne alone oni onj =
       let starts = startsOf t in
       let none = any-none entryCount (shared starts t) (not-true _ apart) i hi in
       let secret : ((stringOf i) .secret && holdsEntry t i) ≡ true = rw (not-false ((stringOf i) .secret) alone, oni) in
-      let clear : any entryCount (touches starts t i) ≡ false = sym (ap (sharedIf starts t i) secret) ∙ none in
-      let other = and-other (differs i j) _ (any-none entryCount (touches starts t i) clear j hj) (unlike-differs i j ne) in
+      let clear : any entryCount (overlaps starts t i) ≡ false = sym (ap (sharedIf starts t i) secret) ∙ none in
+      let other = and-other (differs i j) _ (any-none entryCount (overlaps starts t i) clear j hj) (unlike-differs i j ne) in
       apart-ends _ _ _ _ (and-other (holdsEntry t j) _ other onj)
 
   pub secrets-apart : ((i j : ℕ) → i < entryCount → j < entryCount → (i ≡ j → ⊥)
       → mayShare i ≡ false → holdsEntry t i ≡ true → holdsEntry t j ≡ true → EntriesApart i j) → secretsApart t ≡ true
-  unfolding secretsApart apartIn shared sharedIf touches mayShare
+  unfolding secretsApart apartIn shared sharedIf overlaps mayShare
   secrets-apart all =
       ap not (any-no entryCount (shared (startsOf t) t) (λ i hi. go i hi ((stringOf i) .secret && holdsEntry t i) refl))
     where
@@ -61,7 +61,7 @@ module _ (t : List ℕ) where
       go i hi false e = refl
       go i hi true e =
           let w = and-both ((stringOf i) .secret) (holdsEntry t i) e in
-          any-no entryCount (touches (startsOf t) t i)
+          any-no entryCount (overlaps (startsOf t) t i)
           (λ j hj. and-no (differs i j) _
           (λ ne. and-no (holdsEntry t j) _
           (λ onj. ends-apart _ _ _ _

@@ -15,15 +15,15 @@ abbrev pub behind : List ℕ → List ℕ → ℕ → ℕ
 behind starts t n = offsetIn starts t n + sizeIn starts t n + 1
 
 -- entry j is another than i, is present, and has a byte in common with i, zeros included
-unfoldable pub touches : List ℕ → List ℕ → ℕ → ℕ → Bool
-touches starts t i j =
+unfoldable pub overlaps : List ℕ → List ℕ → ℕ → ℕ → Bool
+overlaps starts t i j =
     differs i j
     && (holdsIn starts t j && (ltb (offsetIn starts t i) (behind starts t j) && ltb (offsetIn starts t j) (behind starts t i)))
 
 -- where entry i is a secret that is present: whether another entry has a byte in common with it
 unfoldable pub sharedIf : List ℕ → List ℕ → ℕ → Bool → Bool
 sharedIf starts t i false = false
-sharedIf starts t i true = any entryCount (touches starts t i)
+sharedIf starts t i true = any entryCount (overlaps starts t i)
 
 unfoldable pub shared : List ℕ → List ℕ → ℕ → Bool
 shared starts t i = sharedIf starts t i ((stringOf i) .secret && holdsIn starts t i)
