@@ -73,6 +73,7 @@ mod tally;
 mod text_damage;
 mod text_maker;
 mod text_shapes;
+mod text_shapes_extras;
 mod text_sights;
 
 fn main() {

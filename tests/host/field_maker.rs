@@ -1,16 +1,16 @@
 //! Values that are told in ways of their own: addresses with runs of zero groups, numbers at their
 //! limits, strings with bytes that have to be escaped.
 
-use crate::model_layout::{ENTRIES, FLAGS_AT};
+use crate::model_layout::{slots, FLAGS_AT};
 use crate::model_notation::Notation;
 use crate::model_record::Record;
-use crate::model_text::{all_fields, Place};
+use crate::model_text::{fields_of, Group, Place};
 use crate::seeded::Seeded;
 use crate::table_maker::Table;
 
 /// Gives about half of the fields of the structures that are present such a value.
 pub fn note_record(seeded: &mut Seeded, record: &mut Record) {
-    for field in all_fields() {
+    for field in fields_of(record) {
         if field.value(record).is_some() && seeded.once_in(2) {
             if let Some(value) = any_of_note(seeded, field.notation) {
                 field.set(record, value);
@@ -21,12 +21,13 @@ pub fn note_record(seeded: &mut Seeded, record: &mut Record) {
 
 /// The same for the structures of a table, wherever they stand. Its sum is still to be mended.
 pub fn note_table(seeded: &mut Seeded, table: &mut Table) {
-    for field in all_fields() {
-        if let Place::Byte { slot, at } = field.place {
-            let start = table.start(slot);
-            if let (Some(value), true) = (any_of_note(seeded, field.notation), start != 0) {
-                if seeded.once_in(2) {
-                    table.write(start + FLAGS_AT as usize + at, &value);
+    for found in slots(&table.bytes) {
+        let (kind, index) = (found.kind, found.index);
+        for field in (Group { kind, index }).fields() {
+            if let (Place::Byte { at, .. }, Some(start)) = (field.place, found.start) {
+                let value = any_of_note(seeded, field.notation);
+                if let (Some(value), true) = (value, seeded.once_in(2)) {
+                    table.write(start as usize + FLAGS_AT as usize + at, &value);
                 }
             }
         }
@@ -35,8 +36,9 @@ pub fn note_table(seeded: &mut Seeded, table: &mut Table) {
 
 /// Adds strings of note behind a table.
 pub fn note_strings(seeded: &mut Seeded, table: &mut Table) {
+    let entries = table.entries();
     for entry in table.owned_entries() {
-        if !ENTRIES[entry].is_host_name && seeded.once_in(3) {
+        if !entries[entry].is_host_name && seeded.once_in(3) {
             let text = string_of_note(seeded);
             table.append_text(entry, &text);
         }

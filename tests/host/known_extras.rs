@@ -37,6 +37,18 @@ fn turned() -> Table {
     ])
 }
 
+/// The table in both orders, and what it is told as.
+pub fn worked_tables() -> [Table; 2] {
+    [three(), turned()]
+}
+
+pub const WORKED_TEXT: &str = "control multi\n\
+    nic5.flags none\n\
+    target9.flags none\n\
+    target9.port 0\n\
+    target255.flags valid\n\
+    target255.port 0\n";
+
 /// The table of `three` with bytes changed at a place.
 fn changed(at: usize, bytes: &[u8]) -> Table {
     let mut table = three();

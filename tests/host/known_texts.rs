@@ -1,7 +1,7 @@
 //! Whole texts with the answers that docs/RECORD-FORMAT.md gives them, written out by hand.
 
 use crate::model_check::Refusal;
-use crate::model_enter_tell::{enter, tell, Entered};
+use crate::model_enter_tell::{enter, tell, tell_hidden, Entered};
 use crate::model_login::login_order;
 use crate::model_readings::{self as readings, EntryWords};
 use crate::model_text::{ALL_STRINGS, LONGEST_TEXT};
@@ -115,8 +115,8 @@ fn unread_lines() -> Vec<Known> {
         unread("initiator0.flags valid", 1, NO_FIELD),
         unread("initiator.mac 02:00:5e:10:00:07", 1, NO_FIELD),
         unread("nic.mac 02:00:5e:10:00:07", 1, NO_FIELD),
-        unread("nic2.mac 02:00:5e:10:00:07", 1, NO_FIELD),
-        unread("target2.lun rubbish", 1, NO_FIELD),
+        unread("oem1.id A", 1, NO_FIELD),
+        unread("control0 multi", 1, NO_FIELD),
         unread("oem.id", 1, NO_STRING),
         unread("initiator.name", 1, NO_STRING),
         unread("initiator.flags", 1, no_name),
@@ -129,6 +129,124 @@ fn unread_lines() -> Vec<Known> {
         unread("nic0.host \"\"\ny\nx", 2, NO_FIELD),
         unread(format!("{}x", "\n".repeat(65_535)), 65_536, NO_FIELD),
     ]
+}
+
+/// How the groups of NICs and targets are written, and how not.
+fn group_names() -> Vec<Known> {
+    let named = |group: &str| {
+        let flags = format!("{}.flags none", group);
+        told(&flags, &["control multi", &flags])
+    };
+    let target = |group: &str| {
+        let lines = [".flags none", ".port 9"].map(|field| format!("{}{}", group, field));
+        let text = lines.join("\n");
+        told(text, &["control multi", &lines[0], &lines[1]])
+    };
+    let mut all: Vec<Known> = Vec::new();
+    for index in [
+        "0", "1", "2", "9", "10", "99", "100", "199", "200", "249", "250", "255",
+    ] {
+        all.push(named(&format!("nic{}", index)));
+        all.push(target(&format!("target{}", index)));
+    }
+    for index in [
+        "",
+        "00",
+        "01",
+        "02",
+        "002",
+        "0255",
+        "0x2",
+        "2x",
+        "x2",
+        "256",
+        "257",
+        "258",
+        "260",
+        "300",
+        "512",
+        "514",
+        "999",
+        "1000",
+        "65538",
+        "4294967298",
+        "18446744073709551618",
+        "-1",
+        "-2",
+        "+2",
+        "2-",
+        "2.0",
+        " 2",
+        "2 ",
+        "_2",
+        "[2]",
+        "2,3",
+        "two",
+        "\u{662}",
+        "/",
+        ":",
+        "1:",
+        "1/",
+        "2\0",
+    ] {
+        for line in [
+            "nic#.flags none",
+            "target#.flags none",
+            "nic#.rubbish",
+            "target#.lun x",
+        ] {
+            all.push(unread(line.replace('#', index), 1, NO_FIELD));
+        }
+    }
+    for name in [
+        "nic5",
+        "nic5.",
+        "nic5.lun",
+        "nic5.name",
+        "nic5.flags.",
+        "nic5..flags",
+        "nic5.5.flags",
+        "nic5flags",
+        "nics5.flags",
+        "Nic5.flags",
+        "NIC5.flags",
+        "nic5.Flags",
+        "nic5.oem",
+        "nic5.nic5",
+        "target5",
+        "target5.",
+        "target5.host",
+        "target5.mac",
+        "target5.chap-",
+        "target5.chap_name",
+        "targets5.flags",
+        "Target5.flags",
+        "target5.target5",
+        "tnic5.flags",
+        "5.flags",
+        ".flags",
+        "oem",
+        "oem.",
+        "oem.id.table",
+        "control.",
+        "control.control",
+        "nic",
+        "target",
+        "target.",
+        ".",
+        "..",
+        "5",
+        "nic5target5.flags",
+        "oem5.id",
+        "oem0.table",
+        "control5",
+        "initiator2.name",
+        "initiator5.flags",
+    ] {
+        all.push(unread(format!("{} none", name), 1, NO_FIELD));
+        all.push(unread(name, 1, NO_FIELD));
+    }
+    all
 }
 
 // ---- Structures and fields ----
@@ -239,11 +357,257 @@ fn every_field() -> Known {
         of(2, "0"),
         of(1, "1"),
         of(2, "1"),
+        of(1, "2"),
+        of(1, "10"),
+        of(2, "9"),
+        of(2, "255"),
     ];
     let mut lines = all.concat();
     let told = lines.iter().map(|line| format!("{}\n", line)).collect();
     lines.reverse();
     known(lines.join("\n"), Told(told))
+}
+
+// ---- Extras ----
+
+/// Four NICs and three targets, their lines mixed.
+const MIXED: &str = "\
+# the far shelf first
+target7.name iqn.2026-11.example:volume7
+nic200.address 2001:db8:7::200
+nic5.vlan 0x46
+target1.nic 1
+  nic1.mac 00:00:5E:00:53:01
+target7.chap-secret \"\"
+nic0.host depot7
+control single
+
+nic5.flags valid
+target0.flags valid
+nic200.prefix 64
+target7.nic 200
+target1.lun 1
+nic0.address 192.0.2.10
+target7.reverse-secret not\\x20told
+nic200.flags none
+nic5.host depot7-c
+";
+
+/// What they are told as.
+const MIXED_TOLD: [&str; 23] = [
+    "control single",
+    "nic0.flags valid selected",
+    "nic0.address 192.0.2.10",
+    "nic0.host depot7",
+    "target0.flags valid",
+    "target0.port 3260",
+    "nic1.flags valid selected",
+    "nic1.mac 00:00:5e:00:53:01",
+    "target1.flags valid selected",
+    "target1.port 3260",
+    "target1.lun 1",
+    "target1.nic 1",
+    "nic5.flags valid",
+    "nic5.vlan 70",
+    "nic5.host depot7-c",
+    "nic200.flags none",
+    "nic200.address 2001:db8:7::200",
+    "nic200.prefix 64",
+    "target7.flags valid selected",
+    "target7.port 3260",
+    "target7.nic 200",
+    "target7.name iqn.2026-11.example:volume7",
+    "target7.chap-secret \"\"",
+];
+
+/// The last line that they are told as, and the last two where secrets are hidden.
+const MIXED_SECRET: &str = "target7.reverse-secret not told";
+const MIXED_HIDDEN: [&str; 2] = [
+    "# target7.chap-secret is hidden",
+    "# target7.reverse-secret is hidden",
+];
+
+fn mixed() -> Known {
+    told(MIXED, &[&MIXED_TOLD[..], &[MIXED_SECRET]].concat())
+}
+
+/// A structure is there with its first field; an extra too.
+fn extras() -> Vec<Known> {
+    let multi = "control multi";
+    let nic = |index: &str| format!("nic{}.flags valid selected", index);
+    let target = |index: &str| {
+        let lines = [".flags valid selected", ".port 3260"];
+        lines.map(|field| format!("target{}{}", index, field))
+    };
+    let [flags, port] = target("9");
+    let [flags_2, port_2] = target("2");
+    let mut all = vec![
+        mixed(),
+        told("nic2.vlan 0", &[multi, &nic("2")]),
+        told("nic255.pci 00:00.0", &[multi, &nic("255")]),
+        told("nic5.host a.", &[multi, &nic("5"), "nic5.host a."]),
+        told(
+            "nic5.dns2 0.0.0.0",
+            &[multi, &nic("5"), "nic5.dns2 0.0.0.0"],
+        ),
+        told("target9.lun 0", &[multi, &flags, &port]),
+        told("target9.chap none", &[multi, &flags, &port]),
+        told("target9.port 0", &[multi, &flags, "target9.port 0"]),
+        told("target9.flags none", &[multi, "target9.flags none", &port]),
+        told(
+            "target9.name \"\"",
+            &[multi, &flags, &port, "target9.name \"\""],
+        ),
+        // By number and not by letter; NICs before targets; the same Index in both kinds.
+        told(
+            "nic10.vlan 0\nnic9.vlan 0\nnic100.vlan 0\nnic99.vlan 0\nnic2.vlan 0",
+            &[
+                multi,
+                &nic("2"),
+                &nic("9"),
+                &nic("10"),
+                &nic("99"),
+                &nic("100"),
+            ],
+        ),
+        told(
+            "target9.lun 0\ntarget2.lun 0\nnic9.vlan 0",
+            &[multi, &nic("9"), &flags_2, &port_2, &flags, &port],
+        ),
+        // A field of another structure is another field.
+        told(
+            "nic2.vlan 0\nnic22.vlan 0\nnic20.vlan 0",
+            &[multi, &nic("2"), &nic("20"), &nic("22")],
+        ),
+    ];
+    all.extend(
+        [
+            "nic2.vlan 0\nnic2.vlan 0",
+            "nic2.vlan 0\nnic2.vlan x",
+            "target255.lun 1\ntarget255.lun 0x1",
+        ]
+        .map(|text| unread(text, 2, GIVEN_BEFORE)),
+    );
+    all.push(unread(
+        "nic2.vlan x\nnic2.vlan 0",
+        1,
+        "the value is not a number from 0 to 65535",
+    ));
+    all.push(unread(
+        "target9.flags global",
+        1,
+        "the value is not made of the words: valid selected radius-chap radius-rchap",
+    ));
+    all.push(unread(
+        "nic9.flags radius-chap",
+        1,
+        "the value is not made of the words: valid selected global",
+    ));
+    all
+}
+
+const SEVENTH_NIC: &str = "a record has at most six NICs beyond nic0 and nic1";
+const SEVENTH_TARGET: &str = "a record has at most six targets beyond target0 and target1";
+
+/// Six of a kind are read, a seventh is not, in whatever order and whatever it is given.
+fn seventh_extras() -> Vec<Known> {
+    let nics = |indexes: &[u8]| -> String {
+        let line = |index: &u8| format!("nic{}.vlan 0\n", index);
+        indexes.iter().map(line).collect()
+    };
+    let targets = |indexes: &[u8]| -> String {
+        let line = |index: &u8| format!("target{}.lun 0\n", index);
+        indexes.iter().map(line).collect()
+    };
+    let told_nics = |indexes: &[u8]| -> Vec<String> {
+        let line = |index: &u8| format!("nic{}.flags valid selected", index);
+        indexes.iter().map(line).collect()
+    };
+    let told_targets = |indexes: &[u8]| -> Vec<String> {
+        let lines = |index: &u8| {
+            [".flags valid selected", ".port 3260"].map(|field| format!("target{}{}", index, field))
+        };
+        indexes.iter().flat_map(lines).collect()
+    };
+    let built = |text: String, lines: Vec<String>| {
+        let mut all = vec!["control multi"];
+        all.extend(lines.iter().map(String::as_str));
+        told(text, &all)
+    };
+    let up = [2, 3, 4, 5, 6, 7];
+    let down = [255, 254, 100, 99, 10, 9];
+    let sorted = [9, 10, 99, 100, 254, 255];
+    let no_number = "the value is not a number from 0 to 65535";
+    vec![
+        built(nics(&up), told_nics(&up)),
+        built(nics(&down), told_nics(&sorted)),
+        built(targets(&down), told_targets(&sorted)),
+        built(
+            targets(&down) + &nics(&up),
+            [told_nics(&up), told_targets(&sorted)].concat(),
+        ),
+        // The named ones are none of the six.
+        built(
+            nics(&up) + "nic0.vlan 0\nnic1.vlan 0\n",
+            told_nics(&[0, 1, 2, 3, 4, 5, 6, 7]),
+        ),
+        // Nor is one that was named before, or one of the other kind.
+        built(nics(&up) + "nic2.prefix 0\nnic7.host a.\n", {
+            let mut lines = told_nics(&up);
+            lines.push("nic7.host a.".to_string());
+            lines
+        }),
+        built(
+            nics(&up) + "target8.lun 0",
+            [told_nics(&up), told_targets(&[8])].concat(),
+        ),
+        unread(nics(&up) + "nic8.vlan 0", 7, SEVENTH_NIC),
+        unread(nics(&down) + "nic2.vlan 0", 7, SEVENTH_NIC),
+        unread(
+            targets(&up) + "\n# eight\ntarget255.lun 0",
+            9,
+            SEVENTH_TARGET,
+        ),
+        unread(targets(&down) + "target2.lun 0", 7, SEVENTH_TARGET),
+        unread(
+            nics(&up) + &targets(&up) + "target8.lun 0",
+            13,
+            SEVENTH_TARGET,
+        ),
+        unread(
+            nics(&up) + &targets(&up) + "nic8.vlan 0\ntarget8.lun 0",
+            13,
+            SEVENTH_NIC,
+        ),
+        // The seventh's line is it, not the eighth's or another of the seventh's.
+        unread(nics(&up) + "nic9.vlan 0\nnic8.vlan 0", 7, SEVENTH_NIC),
+        unread(nics(&up) + "nic8.prefix 0\nnic8.vlan 0", 7, SEVENTH_NIC),
+        // No such field comes before a seventh extra, this before the value.
+        unread(nics(&up) + "nic8.lun 0", 7, NO_FIELD),
+        unread(nics(&up) + "nic08.vlan 0", 7, NO_FIELD),
+        unread(nics(&up) + "nic256.vlan 0", 7, NO_FIELD),
+        unread(nics(&up) + "nic8.vlan rubbish", 7, SEVENTH_NIC),
+        unread(nics(&up) + "nic8.vlan", 7, SEVENTH_NIC),
+        unread(nics(&up) + "nic8.host \\q", 7, SEVENTH_NIC),
+        unread(nics(&up) + "nic7.vlan 0", 7, GIVEN_BEFORE),
+        unread(nics(&up) + "nic2.vlan rubbish", 7, GIVEN_BEFORE),
+        unread(
+            nics(&up) + "nic2.dns1 rubbish\nnic8.vlan 0",
+            7,
+            "the value is not an IP address",
+        ),
+        // The first line that cannot be read is named: a value before the seventh, or the seventh before a value.
+        unread(nics(&up[..5]) + "nic7.vlan x\nnic8.vlan 0", 6, no_number),
+        unread(format!("control x\n{}nic8.vlan 0", nics(&up)), 1, NO_MODE),
+        unread(nics(&up) + "nic8.vlan 0\ncontrol x", 7, SEVENTH_NIC),
+        unread(nics(&up) + "nic8.vlan 0\nnic8.lun 0", 7, SEVENTH_NIC),
+        // What a build would refuse is not come to.
+        unread(
+            format!("nic2.host a_b\noem.id A\\x00B\n{}nic8.vlan 0", nics(&up)),
+            9,
+            SEVENTH_NIC,
+        ),
+    ]
 }
 
 // ---- Refused records ----
@@ -259,7 +623,41 @@ fn refused_records() -> Vec<Known> {
         let line = long(field, most);
         told(&line, &[lines[0], lines[1], lines[2], &line])
     };
+    let name_too_long = long("target7.name", 224);
+    let six = "nic2.vlan 0\nnic3.vlan 0\nnic4.vlan 0\nnic5.vlan 0\nnic6.vlan 0\nnic7.vlan 0\n";
     vec![
+        // Strings of extras have numbers from 13 on, without a gap: hosts by Index, then five of each target.
+        refused(&name_too_long, 17, 13),
+        refused(format!("nic200.vlan 0\n{}", name_too_long), 17, 14),
+        refused(
+            format!(
+                "{}\ntarget9.lun 0\nnic200.vlan 0\nnic5.vlan 0",
+                name_too_long
+            ),
+            17,
+            15,
+        ),
+        refused(
+            format!("{}\ntarget6.lun 0\ntarget200.lun 0", name_too_long),
+            17,
+            18,
+        ),
+        refused(format!("{}{}", six, name_too_long), 17, 19),
+        refused("nic5.host a_b", 18, 13),
+        refused("nic5.host a_b\nnic6.host a", 18, 13),
+        refused("nic5.host a_b\nnic4.vlan 0", 18, 14),
+        refused("nic5.host \"\"\nnic4.host \"\"", 18, 13),
+        refused(format!("{}nic7.host a.b.", six), 18, 18),
+        refused("target200.chap-name \\x00", 20, 14),
+        refused("target200.chap-secret a\\x00", 20, 15),
+        refused("target200.reverse-name a\\x00b", 20, 16),
+        refused(
+            "target200.reverse-secret \\x00\ntarget2.lun 0\nnic9.vlan 0",
+            20,
+            23,
+        ),
+        refused("target200.reverse-secret \\x00\nnic9.host -", 18, 13),
+        refused("target200.name \\x00\ntarget1.reverse-secret \\x00", 20, 12),
         refused("oem.id A\\x00B", 8, 10),
         refused("oem.table \\x00B", 8, 16),
         refused(
@@ -272,6 +670,7 @@ fn refused_records() -> Vec<Known> {
         is_long("target0.chap-secret", 255),
         refused(long("target0.chap-secret", 256), 17, 4),
         refused(long("initiator.name", ALL_STRINGS), 17, 0),
+        refused(long("target255.reverse-secret", ALL_STRINGS), 17, 17),
         refused("initiator.name \\x00", 20, 0),
         refused("target1.reverse-secret a\\x00b", 20, 12),
         refused("target1.name \\x00\ntarget0.name a\\x00", 20, 2),
@@ -291,7 +690,7 @@ fn refused_records() -> Vec<Known> {
 fn limits_of_strings() -> Vec<Known> {
     let six = "the string has more than 6 bytes";
     let eight = "the string has more than 8 bytes";
-    let together = "the strings together have more than 4096 bytes";
+    let together = "the strings together have more than 16384 bytes";
     let oem = ["oem.id 123456", "oem.table 12345678", "control multi"];
     let name = |size: usize| format!("initiator.name {}\n", "a".repeat(size));
     let escaped = |size: usize| format!("target1.name {}\n", "\\x61".repeat(size));
@@ -307,9 +706,12 @@ fn limits_of_strings() -> Vec<Known> {
         unread(name(ALL_STRINGS) + "nic0.host \\q", 2, NO_STRING),
         unread(name(ALL_STRINGS) + "initiator.name a", 2, GIVEN_BEFORE),
         refused(name(ALL_STRINGS) + "nic0.host \"\"\noem.id 123456", 17, 0),
-        refused(escaped(2_000) + &name(2_096), 17, 0),
-        unread(escaped(2_001) + &name(2_096), 2, together),
-        unread(name(5_000).replace("a\n", "\\q"), 1, NO_STRING),
+        refused(escaped(8_000) + &name(8_384), 17, 0),
+        unread(escaped(8_001) + &name(8_384), 2, together),
+        unread(name(17_000).replace("a\n", "\\q"), 1, NO_STRING),
+        unread(name(ALL_STRINGS) + "target7.name a", 2, together),
+        refused(name(ALL_STRINGS) + "target7.name \"\"", 17, 0),
+        refused(name(4_097), 17, 0),
     ]
 }
 
@@ -334,9 +736,12 @@ fn limits_of_text() -> Vec<Known> {
 pub fn known_texts() -> Vec<Known> {
     let mut all = blanks_and_comments();
     all.extend(unread_lines());
+    all.extend(group_names());
     all.extend(presence());
     all.extend(targets());
     all.push(every_field());
+    all.extend(extras());
+    all.extend(seventh_extras());
     all.extend(refused_records());
     all.extend(limits_of_strings());
     all.extend(limits_of_text());
@@ -350,7 +755,9 @@ fn is_answered_as_known(known: &Known) -> bool {
     let as_known = match (&entered, &known.answer) {
         (Entered::Table(table), Told(text)) => tell(table) == *text,
         (Entered::Unread(message), Unread(known)) => message == known,
-        (Entered::Refused(Refusal { number, place }), Refused(n, p)) => (number, place) == (n, p),
+        (Entered::Refused(Refusal { number, place }, _), Refused(n, p)) => {
+            (number, place) == (n, p)
+        }
         _ => false,
     };
     if !as_known {
@@ -449,7 +856,10 @@ fn assert_every_field() {
     assert_eq!(initiator.slp_server, small(2));
     assert_eq!(initiator.primary_radius_server, small(3));
     assert_eq!(initiator.secondary_radius_server, small(4));
-    for n in 0..2 {
+    let accepted = readings::accepted(&table).ok().unwrap();
+    let index = |slot: u64| accepted.structure(slot).ok().unwrap().index;
+    assert_eq!([5, 6, 7, 8].map(index), [2, 10, 9, 255]);
+    for n in 0..4 {
         let nic = readings::nic(&table, n).unwrap();
         let addresses = [nic.address, nic.gateway, nic.primary_dns, nic.secondary_dns];
         assert_eq!(addresses, [small(1), small(2), small(3), small(4)]);
@@ -469,6 +879,58 @@ fn assert_every_field() {
     }
 }
 
+/// The words of a refusal name the field, an extra's by its Index.
+fn assert_words() {
+    let words = |text: &str| match enter(text.as_bytes()) {
+        Entered::Refused(_, words) => words,
+        other => panic!("{:?} is answered {:?}", text, other),
+    };
+    let long = "a".repeat(256);
+    for (text, said) in [
+        (
+            "oem.id A\\x00B",
+            "oem.id: a zero byte is followed by another byte",
+        ),
+        (
+            "oem.table \\x00B",
+            "oem.table: a zero byte is followed by another byte",
+        ),
+        ("nic1.host a.b.", "nic1.host: this is not a host name"),
+        (
+            "initiator.name \\x00",
+            "initiator.name: the string has a zero byte",
+        ),
+        (
+            &format!("target7.name {}", long),
+            "target7.name: a name has at most 223 bytes, any other string 255",
+        ),
+        (
+            &format!(
+                "nic3.vlan 0\ntarget2.lun 0\ntarget7.reverse-secret {}",
+                long
+            ),
+            "target7.reverse-secret: a name has at most 223 bytes, any other string 255",
+        ),
+        (
+            "nic200.host -\nnic7.vlan 0",
+            "nic200.host: this is not a host name",
+        ),
+        (
+            "target255.chap-name \\x00\nnic7.vlan 0\ntarget9.lun 0",
+            "target255.chap-name: the string has a zero byte",
+        ),
+    ] {
+        assert_eq!(words(text), said);
+    }
+}
+
+/// The secrets of an extra are hidden too.
+fn assert_hidden() {
+    let told = [&MIXED_TOLD[..22], &MIXED_HIDDEN].concat();
+    let told: String = told.iter().map(|line| format!("{}\n", line)).collect();
+    assert_eq!(tell_hidden(&table_of_text(MIXED.as_bytes())), told);
+}
+
 /// Of two targets whose flags are not given the lower Index goes first in single mode, unless it is
 /// given as not selected.
 fn assert_preferred_target() {
@@ -482,6 +944,8 @@ fn assert_preferred_target() {
 pub fn known_texts_agree() -> bool {
     assert_example();
     assert_every_field();
+    assert_words();
+    assert_hidden();
     assert_preferred_target();
     known_texts().iter().all(is_answered_as_known)
 }

@@ -129,31 +129,25 @@ const fn kind(id: u64, length: u64, named_flags: u64, texts: &'static [StringFie
     }
 }
 
-/// One of the five structures that have a named word: its name in `show`, its kind, its Index, and where
-/// Control has the word with its start.
+/// One of the five structures that have a named word: its kind, its Index, and where Control has the word
+/// with its start.
 #[derive(Clone, Copy)]
 pub struct Slot {
-    pub name: &'static str,
     pub kind: Kind,
     pub index: u64,
     pub word: u64,
 }
 
 pub const SLOTS: [Slot; 5] = [
-    slot("initiator", INITIATOR, 0, 56),
-    slot("nic0", NIC, 0, 58),
-    slot("target0", TARGET, 0, 60),
-    slot("nic1", NIC, 1, 62),
-    slot("target1", TARGET, 1, 64),
+    slot(INITIATOR, 0, 56),
+    slot(NIC, 0, 58),
+    slot(TARGET, 0, 60),
+    slot(NIC, 1, 62),
+    slot(TARGET, 1, 64),
 ];
 
-const fn slot(name: &'static str, kind: Kind, index: u64, word: u64) -> Slot {
-    Slot {
-        name,
-        kind,
-        index,
-        word,
-    }
+const fn slot(kind: Kind, index: u64, word: u64) -> Slot {
+    Slot { kind, index, word }
 }
 
 /// A string by its number: the slot that owns it, and what it is in that structure.

@@ -4,11 +4,11 @@
 
 use crate::model_layout::*;
 use crate::model_notation::{is_blank, Notation};
-use crate::model_record::{fields as bytes_of_fields, Record};
+use crate::model_record::{fields as bytes_of_fields, Extra, Record};
 use Notation::*;
 
 pub const LONGEST_TEXT: usize = 65_536;
-pub const ALL_STRINGS: usize = 4_096;
+pub const ALL_STRINGS: usize = 16_384;
 
 /// The port of a target that is given none.
 pub const ISCSI_PORT: u16 = 3260;
@@ -16,17 +16,83 @@ pub const ISCSI_PORT: u16 = 3260;
 /// The flags of a structure that is given none.
 pub const USUAL_FLAGS: u8 = (VALID | SELECTED) as u8;
 
+// ---- Groups ----
+
+/// The structure whose fields have a name in common: `initiator`, or a NIC or target by its Index.
+#[derive(Clone, Copy, Debug, PartialEq)]
+pub struct Group {
+    pub kind: Kind,
+    pub index: u64,
+}
+
+pub const fn nic(index: u64) -> Group {
+    Group { kind: NIC, index }
+}
+
+pub const fn target(index: u64) -> Group {
+    let kind = TARGET;
+    Group { kind, index }
+}
+
+impl Group {
+    pub fn name(&self) -> String {
+        match self.kind.id {
+            2 => "initiator".to_string(),
+            3 => format!("nic{}", self.index),
+            _ => format!("target{}", self.index),
+        }
+    }
+
+    /// The group that a name is of: an Index has the digits that it is told with, and no others.
+    pub fn named(name: &str) -> Option<Group> {
+        let (kind, digits) = match (name.strip_prefix("nic"), name.strip_prefix("target")) {
+            (Some(digits), _) => (NIC, digits),
+            (_, Some(digits)) => (TARGET, digits),
+            _ => (INITIATOR, "0"),
+        };
+        let index = u64::from(digits.parse::<u8>().ok()?);
+        let group = Group { kind, index };
+        (group.name() == name).then_some(group)
+    }
+
+    pub fn is_extra(&self) -> bool {
+        self.kind != INITIATOR && self.index >= FIRST_EXTRA_INDEX
+    }
+
+    /// In the order in which they are told.
+    pub fn fields(&self) -> Vec<Field> {
+        let rows = match self.kind.id {
+            2 => INITIATOR_FIELDS,
+            3 => NIC_FIELDS,
+            _ => TARGET_FIELDS,
+        };
+        let group = *self;
+        let field = |(last, at, notation): &Row| Field {
+            name: format!("{}.{}", group.name(), last),
+            place: match group.kind.texts.iter().find(|text| text.at == *at) {
+                Some(text) => Place::Entry { group, text: *text },
+                None => Place::Byte {
+                    group,
+                    at: *at as usize - bytes_of_fields(&group.kind).start,
+                },
+            },
+            notation: *notation,
+        };
+        rows.iter().map(field).collect()
+    }
+}
+
 // ---- Fields ----
 
-/// Where a record has a field's value: from a byte of a slot's structure on, in an entry, or in one
-/// of the rest.
+/// Where a record has a field's value: from a byte of a group's structure on, in one of its strings,
+/// or in one of the rest.
 #[derive(Clone, Copy, Debug, PartialEq)]
 pub enum Place {
     OemId,
     OemTableId,
     Control,
-    Byte { slot: usize, at: usize },
-    Entry(usize),
+    Byte { group: Group, at: usize },
+    Entry { group: Group, text: StringField },
 }
 
 #[derive(Clone, Debug)]
@@ -83,55 +149,75 @@ const TARGET_FIELDS: &[Row] = &[
 
 const PORT_AT: u64 = 22;
 
-/// All fields in the order in which they are told.
-pub fn all_fields() -> Vec<Field> {
+/// The fields of no group.
+fn first_fields() -> Vec<Field> {
     let field = |name: &str, place, notation| Field {
         name: name.to_string(),
         place,
         notation,
     };
-    let mut fields = vec![
+    vec![
         field("oem.id", Place::OemId, Filled(6)),
         field("oem.table", Place::OemTableId, Filled(8)),
         field("control", Place::Control, Choice(&["multi", "single"])),
-    ];
-    for (slot, Slot { name, kind, .. }) in SLOTS.iter().enumerate() {
-        let rows = match kind.id {
-            2 => INITIATOR_FIELDS,
-            3 => NIC_FIELDS,
-            _ => TARGET_FIELDS,
-        };
-        for (last, at, notation) in rows {
-            let full = format!("{}.{}", name, last);
-            fields.push(field(&full, place(slot, *at), *notation));
-        }
+    ]
+}
+
+/// All fields but those of extras, in the order in which they are told.
+pub fn all_fields() -> Vec<Field> {
+    let mut fields = first_fields();
+    for Slot { kind, index, .. } in SLOTS {
+        fields.extend(Group { kind, index }.fields());
     }
     fields
 }
 
-fn place(slot: usize, at: u64) -> Place {
-    let is_it = |entry: &Entry| entry.slot == slot && entry.at == at;
-    match ENTRIES.iter().position(is_it) {
-        Some(entry) => Place::Entry(entry),
-        None => Place::Byte {
-            slot,
-            at: at as usize - bytes_of_fields(&SLOTS[slot].kind).start,
-        },
+/// The fields that a record may have a value for, in the order in which they are told: behind all
+/// others those of its extras, which it has in the order of the slots.
+pub fn fields_of(record: &Record) -> Vec<Field> {
+    let mut fields = all_fields();
+    for Extra { kind, index } in record.extras.iter().copied() {
+        fields.extend(Group { kind, index }.fields());
     }
+    fields
+}
+
+/// The field of that name.
+pub fn field_named(name: &str) -> Option<Field> {
+    let fields = match name.split_once('.').map(|(group, _)| Group::named(group)) {
+        Some(Some(group)) => group.fields(),
+        _ => first_fields(),
+    };
+    fields.into_iter().find(|field| field.name == name)
 }
 
 impl Field {
+    pub fn group(&self) -> Option<Group> {
+        match self.place {
+            Place::Byte { group, .. } | Place::Entry { group, .. } => Some(group),
+            _ => None,
+        }
+    }
+
+    pub fn is_secret(&self) -> bool {
+        matches!(self.place, Place::Entry { text, .. } if text.is_secret)
+    }
+
     /// What a record holds for the field; none where its structure is absent or its string missing.
     pub fn value(&self, record: &Record) -> Option<Vec<u8>> {
         match self.place {
             Place::OemId => Some(record.oem_id.clone()),
             Place::OemTableId => Some(record.oem_table_id.clone()),
             Place::Control => Some(vec![record.control_flags as u8]),
-            Place::Byte { slot, at } => {
+            Place::Byte { group, at } => {
+                let slot = slot_of(record, group)?;
                 let structure = record.structures[slot].as_ref()?;
                 Some(structure[at..at + self.notation.size()].to_vec())
             }
-            Place::Entry(entry) => record.entries[entry].clone(),
+            Place::Entry { group, text } => {
+                let slot = slot_of(record, group)?;
+                record.entries[entry_of(record, slot, text)].clone()
+            }
         }
     }
 
@@ -143,12 +229,14 @@ impl Field {
             Place::OemId => record.oem_id = value,
             Place::OemTableId => record.oem_table_id = value,
             Place::Control => record.control_flags = u64::from(value[0]),
-            Place::Byte { slot, at } => {
-                let structure = structure_of(record, slot);
+            Place::Byte { group, at } => {
+                let slot = present_slot(record, group);
+                let structure = record.structures[slot].as_mut().unwrap();
                 structure[at..at + value.len()].copy_from_slice(&value);
             }
-            Place::Entry(entry) => {
-                structure_of(record, ENTRIES[entry].slot);
+            Place::Entry { group, text } => {
+                let slot = present_slot(record, group);
+                let entry = entry_of(record, slot, text);
                 record.entries[entry] = Some(value);
             }
         }
@@ -162,19 +250,57 @@ impl Field {
     }
 }
 
-/// The structure of a slot, present from now on: valid and selected, a target's port 3260, all else
-/// zero.
-fn structure_of(record: &mut Record, slot: usize) -> &mut Vec<u8> {
+/// The slot of a group; none of an extra that the record has not.
+fn slot_of(record: &Record, group: Group) -> Option<usize> {
+    let kinds = record.kinds();
+    let is_it = |slot: &usize| kinds[*slot] == group.kind && record.index(*slot) == group.index;
+    (0..kinds.len()).find(is_it)
+}
+
+/// The number of a slot's string.
+fn entry_of(record: &Record, slot: usize, text: StringField) -> usize {
+    let is_it = |entry: &Entry| (entry.slot, entry.at) == (slot, text.at);
+    entries_of(&record.kinds()).iter().position(is_it).unwrap()
+}
+
+/// The name of the field that is the string of this number.
+pub fn name_of_string(record: &Record, number: usize) -> String {
+    let Entry { slot, at, .. } = entries_of(&record.kinds())[number];
+    let (kind, index) = (record.kinds()[slot], record.index(slot));
+    let is_it = |field: &Field| matches!(field.place, Place::Entry { text, .. } if text.at == at);
+    let mut fields = Group { kind, index }.fields().into_iter();
+    fields.find(is_it).unwrap().name
+}
+
+/// The slot of a group whose structure is present from now on: valid and selected, a target's port
+/// 3260, all else zero.
+fn present_slot(record: &mut Record, group: Group) -> usize {
+    let slot = slot_of(record, group).unwrap_or_else(|| new_slot(record, group));
     record.structures[slot].get_or_insert_with(|| {
-        let range = bytes_of_fields(&SLOTS[slot].kind);
+        let range = bytes_of_fields(&group.kind);
         let mut structure = vec![0; range.len()];
         structure[FLAGS_AT as usize - range.start] = USUAL_FLAGS;
-        if SLOTS[slot].kind.id == TARGET.id {
+        if group.kind == TARGET {
             let port = PORT_AT as usize - range.start;
             structure[port..port + 2].copy_from_slice(&ISCSI_PORT.to_le_bytes());
         }
         structure
-    })
+    });
+    slot
+}
+
+/// The slot of one more extra: NICs before targets, each by Index. All behind it have one more.
+fn new_slot(record: &mut Record, group: Group) -> usize {
+    let Group { kind, index } = group;
+    let comes_before = |extra: &&Extra| (extra.kind.id, extra.index) < (kind.id, index);
+    let before = record.extras.iter().filter(comes_before).count();
+    let slot = SLOTS.len() + before;
+    let entry = entries_of(&record.kinds()[..slot]).len();
+    let strings = vec![None; kind.texts.len()];
+    record.extras.insert(before, Extra { kind, index });
+    record.structures.insert(slot, None);
+    record.entries.splice(entry..entry, strings);
+    slot
 }
 
 // ---- From text to record ----
@@ -195,19 +321,29 @@ pub fn record_of(text: &[u8]) -> Result<Record, Unread> {
         return Err(Unread::TooLong);
     }
     let mut reader = Reader {
-        fields: all_fields(),
         given: Vec::new(),
+        extras: Vec::new(),
         record: empty_record(),
     };
-    for (i, line) in text.split(|byte| *byte == b'\n').enumerate() {
-        let line = trimmed(line);
-        if !line.is_empty() && line[0] != b'#' {
-            let number = i + 1;
-            let unread = |reason| Unread::Line { number, reason };
-            reader.read(line).map_err(unread)?;
-        }
+    for (number, line) in lines_that_say(text) {
+        let unread = |reason| Unread::Line { number, reason };
+        reader.read(line).map_err(unread)?;
     }
     Ok(reader.record)
+}
+
+/// The lines that say something, without the blanks at their ends, and their numbers from 1 on.
+pub fn lines_that_say(text: &[u8]) -> impl Iterator<Item = (usize, &[u8])> {
+    let lines = text.split(|byte| *byte == b'\n').map(trimmed);
+    let says = |line: &[u8]| !line.is_empty() && line[0] != b'#';
+    (1..).zip(lines).filter(move |(_, line)| says(line))
+}
+
+/// The field that a line names and what stands behind it.
+pub fn field_and_value(line: &[u8]) -> (&[u8], &[u8]) {
+    let end = line.iter().position(|byte| is_blank(*byte));
+    let (field, rest) = line.split_at(end.unwrap_or(line.len()));
+    (field, trimmed(rest))
 }
 
 /// Nothing given.
@@ -234,28 +370,47 @@ fn trimmed(line: &[u8]) -> &[u8] {
 }
 
 struct Reader {
-    fields: Vec<Field>,
     given: Vec<String>,
+    /// The extras that lines have named.
+    extras: Vec<Group>,
     record: Record,
 }
 
 impl Reader {
-    /// A line that says something: the field exists, was not given before, its value can be read,
-    /// and its string has room.
+    /// A line that says something: the field exists, is of no seventh extra, was not given before, its
+    /// value can be read, and its string has room.
     fn read(&mut self, line: &[u8]) -> Result<(), String> {
-        let end = line.iter().position(|byte| is_blank(*byte));
-        let (name, rest) = line.split_at(end.unwrap_or(line.len()));
-        let is_named = |field: &&Field| field.name.as_bytes() == name;
-        let field = self.fields.iter().find(is_named);
+        let (name, value) = field_and_value(line);
+        let field = std::str::from_utf8(name).ok().and_then(field_named);
         let field = field.ok_or("there is no such field")?;
+        if let Some(group) = field.group().filter(Group::is_extra) {
+            self.meet_extra(group)?;
+        }
         if self.given.contains(&field.name) {
             return Err("this field was given before".to_string());
         }
-        let value = field.notation.read(trimmed(rest));
+        let value = field.notation.read(value);
         let value = value.ok_or_else(|| field.notation.reason())?;
         self.find_room(field.notation, value.len())?;
         field.set(&mut self.record, value);
-        self.given.push(field.name.clone());
+        self.given.push(field.name);
+        Ok(())
+    }
+
+    /// Six of a kind are met at most.
+    fn meet_extra(&mut self, group: Group) -> Result<(), String> {
+        if self.extras.contains(&group) {
+            return Ok(());
+        }
+        let same_kind = self.extras.iter().filter(|met| met.kind == group.kind);
+        if same_kind.count() == EXTRAS_OF_A_KIND {
+            let beyond = match group.kind == NIC {
+                true => "six NICs beyond nic0 and nic1",
+                false => "six targets beyond target0 and target1",
+            };
+            return Err(format!("a record has at most {}", beyond));
+        }
+        self.extras.push(group);
         Ok(())
     }
 
@@ -275,13 +430,26 @@ impl Reader {
 // ---- From record to text ----
 
 pub fn text_of(record: &Record) -> String {
+    told_lines(record, |field, value| {
+        format!("{} {}\n", field.name, field.notation.written(value))
+    })
+}
+
+/// The same with a comment in place of each secret.
+pub fn hidden_text_of(record: &Record) -> String {
+    told_lines(record, |field, value| match field.is_secret() {
+        true => format!("# {} is hidden\n", field.name),
+        false => format!("{} {}\n", field.name, field.notation.written(value)),
+    })
+}
+
+fn told_lines(record: &Record, line: impl Fn(&Field, &[u8]) -> String) -> String {
     let mut text = String::new();
-    for field in all_fields() {
+    for field in fields_of(record) {
         if let Some(value) = field.value(record) {
             let is_zero = value.iter().all(|byte| *byte == 0);
             if !is_zero || field.is_told_always() {
-                let value = field.notation.written(&value);
-                text += &format!("{} {}\n", field.name, value);
+                text += &line(&field, &value);
             }
         }
     }

@@ -54,8 +54,14 @@ fn feed(mut stdin: ChildStdin, input: &Fed) -> std::io::Result<()> {
 
 /// What the program writes. It has to start, and no signal may end it.
 pub fn run(program: &OsStr, input: &Fed) -> Result<Output, String> {
+    run_with(program, &[], input)
+}
+
+/// The same with words behind the program's name.
+pub fn run_with(program: &OsStr, words: &[&str], input: &Fed) -> Result<Output, String> {
     let cannot = |error: std::io::Error| format!("cannot run {:?}: {}", program, error);
     let mut child = Command::new(program)
+        .args(words)
         .stdin(Stdio::piped())
         .stdout(Stdio::piped())
         .stderr(Stdio::piped())

@@ -18,10 +18,11 @@ macro_rules! sample {
     };
 }
 
-pub const SAMPLES: [Sample; 5] = [
+pub const SAMPLES: [Sample; 6] = [
     sample!("case-5"),
     sample!("ipxe-one-target"),
     sample!("ipxe-mutual-chap"),
     sample!("ipxe-two-targets"),
     sample!("ovmf-one-target"),
+    sample!("depot-controller"),
 ];

@@ -1,10 +1,11 @@
 //! Faults that are put into a text: into one of its lines, or into its bytes.
 
 use crate::compare_host_name::any_name;
+use crate::good_tables::shuffle;
 use crate::known_values::known_values;
-use crate::model_layout::{Entry, ENTRIES};
+use crate::model_layout::{StringField, EXTRAS_OF_A_KIND};
 use crate::model_notation::Notation;
-use crate::model_text::{all_fields, Field, Place};
+use crate::model_text::{all_fields, field_named, nic, target, Field, Group, Place, ALL_STRINGS};
 use crate::seeded::Seeded;
 use crate::text_maker::{any_value, line_of, Line};
 
@@ -15,6 +16,8 @@ const DAMAGES: &[Damage] = &[
     field_given_again,
     field_misspelt,
     field_of_another,
+    group_misspelt,
+    line_of_another_index,
     value_known,
     value_of_another,
     value_emptied,
@@ -40,9 +43,27 @@ fn any_line<'a>(seeded: &mut Seeded, lines: &'a mut [Line]) -> Option<&'a mut Li
     }
 }
 
-fn any_field(seeded: &mut Seeded, is_fit: impl Fn(&Field) -> bool) -> Field {
-    let fields: Vec<Field> = all_fields().into_iter().filter(is_fit).collect();
+/// A field of those that have no extra's name, or of the extras that the lines name.
+fn any_field(seeded: &mut Seeded, lines: &[Line], is_fit: impl Fn(&Field) -> bool) -> Field {
+    let mut fields = all_fields();
+    for group in extras_named(lines) {
+        fields.extend(group.fields());
+    }
+    fields.retain(is_fit);
     fields[seeded.between(0, fields.len() - 1)].clone()
+}
+
+/// The extras that the lines name, each once, in the order of the lines.
+pub fn extras_named(lines: &[Line]) -> Vec<Group> {
+    let mut extras = Vec::new();
+    for field in lines.iter().filter_map(|line| field_named(&line.field)) {
+        if let Some(group) = field.group() {
+            if group.is_extra() && !extras.contains(&group) {
+                extras.push(group);
+            }
+        }
+    }
+    extras
 }
 
 /// Gives the field this value in place of the one that it has.
@@ -88,7 +109,7 @@ fn field_misspelt(seeded: &mut Seeded, lines: &mut Vec<Line>) {
 
 /// Such as `initiator.mac` or `nic2.lun`.
 fn field_of_another(seeded: &mut Seeded, lines: &mut Vec<Line>) {
-    let last = any_field(seeded, |field| field.name.contains('.')).name;
+    let last = any_field(seeded, lines, |field| field.name.contains('.')).name;
     let last = last.split_once('.').unwrap().1.to_string();
     let first = seeded.one_of(&[
         "oem",
@@ -96,7 +117,9 @@ fn field_of_another(seeded: &mut Seeded, lines: &mut Vec<Line>) {
         "initiator",
         "nic0",
         "nic2",
+        "nic255",
         "target1",
+        "target9",
         "target",
     ]);
     if let Some(line) = any_line(seeded, lines) {
@@ -104,12 +127,114 @@ fn field_of_another(seeded: &mut Seeded, lines: &mut Vec<Line>) {
     }
 }
 
+// ---- Groups ----
+
+/// An Index at which the number of its digits or of its bits changes, or any.
+pub fn index_of_note(seeded: &mut Seeded) -> u64 {
+    let any = seeded.between(2, 255) as u64;
+    seeded.one_of(&[
+        2, 3, 9, 10, 11, 99, 100, 101, 127, 128, 254, 255, any, any, any,
+    ])
+}
+
+/// How an Index is not written; of a group that has none, how it is not written either.
+pub fn group_misspelt(seeded: &mut Seeded, lines: &mut Vec<Line>) {
+    let groups: Vec<usize> = (0..lines.len())
+        .filter(|i| lines[*i].field.contains('.'))
+        .collect();
+    if groups.is_empty() {
+        return;
+    }
+    let line = &mut lines[seeded.one_of(&groups)];
+    let (group, last) = line.field.split_once('.').unwrap();
+    let kind = group.trim_end_matches(|c: char| c.is_ascii_digit());
+    let index: u64 = group[kind.len()..].parse().unwrap_or(0);
+    let wrong = match seeded.between(0, 19) {
+        0 | 1 => format!("0{}", index),
+        2 => format!("00{}", index),
+        3 => format!("{:03}", index + 1_000),
+        4 => format!("{:#x}", index),
+        5 => format!("x{}", index),
+        6 => format!("+{}", index),
+        7 => format!("-{}", index),
+        8 => String::new(),
+        9 => format!("{}", 256 + index),
+        10 => "256".to_string(),
+        11 => format!(
+            "{}",
+            (1u128 << seeded.one_of(&[16, 32, 64])) + u128::from(index)
+        ),
+        12 => format!("{}a", index),
+        13 => format!("{}.{}", index, index),
+        14 => format!("_{}", index),
+        15 => format!("[{}]", index),
+        16 => format!("{}0000000000", index),
+        17 => format!("{}:", index),
+        18 => format!("/{}", index),
+        _ => format!("{}\u{663}", index),
+    };
+    let kind = match seeded.once_in(12) {
+        true => seeded.one_of(&[
+            "Nic", "NIC", "nics", "tgt", "Target", "targets", "ni", "nict",
+        ]),
+        false => kind,
+    };
+    line.field = format!("{}{}.{}", kind, wrong, last);
+}
+
+/// One line goes to another structure of its kind, which may be there or not, and be one too many.
+fn line_of_another_index(seeded: &mut Seeded, lines: &mut Vec<Line>) {
+    let index = index_of_note(seeded);
+    let index = seeded.one_of(&[0, 1, index, index, index]);
+    if let Some(line) = any_line(seeded, lines) {
+        if let Some(Group { kind, .. }) = field_named(&line.field).and_then(|field| field.group()) {
+            let last = line.field.split_once('.').unwrap().1;
+            line.field = format!("{}.{}", Group { kind, index }.name(), last);
+        }
+    }
+}
+
+/// Lines of further extras of a kind, so that there are seven or eight of it. They stand anywhere;
+/// their values are those of the kind's other lines, of no use, or good.
+pub fn too_many_extras(seeded: &mut Seeded, lines: &mut Vec<Line>) {
+    let make = seeded.one_of(&[nic as fn(u64) -> Group, target]);
+    let kind = make(2).kind;
+    let many = EXTRAS_OF_A_KIND + seeded.one_of(&[1, 1, 1, 2]);
+    let mut groups = extras_named(lines);
+    groups.retain(|group| group.kind == kind);
+    while groups.len() < many {
+        let group = make(index_of_note(seeded));
+        if groups.contains(&group) {
+            continue;
+        }
+        groups.push(group);
+        let mut fields = group.fields();
+        shuffle(seeded, &mut fields);
+        for field in &fields[..seeded.one_of(&[1, 1, 2, 4])] {
+            let value = match seeded.once_in(12) {
+                true => b"rubbish\\".to_vec(),
+                false => good_value(seeded, field.notation),
+            };
+            let at = seeded.between(0, lines.len());
+            let field = field.name.clone();
+            lines.insert(at, Line { field, value });
+        }
+    }
+}
+
+/// Some value that can be read.
+pub fn good_value(seeded: &mut Seeded, notation: Notation) -> Vec<u8> {
+    let values = known_values();
+    let own = values.iter().find(|(known, _)| *known == notation);
+    let is_good = |value: &&(&'static [u8], Option<&'static [u8]>)| value.1.is_some();
+    let good: Vec<&[u8]> = own.unwrap().1.iter().filter(is_good).map(|v| v.0).collect();
+    seeded.one_of(&good).to_vec()
+}
+
 // ---- Values ----
 
 fn notation_of(line: &Line) -> Option<Notation> {
-    let fields = all_fields();
-    let field = fields.iter().find(|field| field.name == line.field)?;
-    Some(field.notation)
+    field_named(&line.field).map(|field| field.notation)
 }
 
 /// One of the values that are known of the field's notation, or of any other.
@@ -160,7 +285,7 @@ fn change_byte(seeded: &mut Seeded, bytes: &mut Vec<u8>) {
 }
 
 fn number_out_of_range(seeded: &mut Seeded, lines: &mut Vec<Line>) {
-    let field = any_field(seeded, |field| {
+    let field = any_field(seeded, lines, |field| {
         matches!(field.notation, Notation::Number(_))
     });
     let limits: [u128; 4] = [1 << 8, 1 << 16, 1 << 32, 1 << 64];
@@ -184,10 +309,10 @@ fn number_out_of_range(seeded: &mut Seeded, lines: &mut Vec<Line>) {
 
 // ---- Strings ----
 
-fn any_entry(seeded: &mut Seeded) -> (Field, &'static Entry) {
-    let field = any_field(seeded, |field| field.notation == Notation::Text);
+fn any_entry(seeded: &mut Seeded, lines: &[Line]) -> (Field, StringField) {
+    let field = any_field(seeded, lines, |field| field.notation == Notation::Text);
     match field.place {
-        Place::Entry(entry) => (field, &ENTRIES[entry]),
+        Place::Entry { text, .. } => (field, text),
         _ => unreachable!(),
     }
 }
@@ -195,9 +320,9 @@ fn any_entry(seeded: &mut Seeded) -> (Field, &'static Entry) {
 /// A little too long, or so long that all strings together may be.
 pub fn string_too_long(seeded: &mut Seeded, lines: &mut Vec<Line>) {
     for _ in 0..seeded.one_of(&[1, 1, 2, 3, 5]) {
-        let (field, entry) = any_entry(seeded);
+        let (field, entry) = any_entry(seeded, lines);
         let longest = entry.longest as usize;
-        let any = seeded.between(longest, 4_100);
+        let any = seeded.between(longest, ALL_STRINGS + 4);
         let size = seeded.one_of(&[longest, longest + 1, longest + 2, 1_000, any]);
         let letter = seeded.one_of(b"a0-.\xFC");
         let line = line_of(seeded, &field, &vec![letter; size]);
@@ -206,7 +331,7 @@ pub fn string_too_long(seeded: &mut Seeded, lines: &mut Vec<Line>) {
 }
 
 fn zero_byte(seeded: &mut Seeded, lines: &mut Vec<Line>) {
-    let (field, entry) = any_entry(seeded);
+    let (field, entry) = any_entry(seeded, lines);
     let size = seeded.one_of(&[
         1,
         2,
@@ -223,7 +348,7 @@ fn zero_byte(seeded: &mut Seeded, lines: &mut Vec<Line>) {
 
 /// Text after a zero byte, a byte too many, or neither.
 fn oem_text(seeded: &mut Seeded, lines: &mut Vec<Line>) {
-    let field = any_field(seeded, |field| {
+    let field = any_field(seeded, lines, |field| {
         matches!(field.notation, Notation::Filled(_))
     });
     let size = seeded.between(1, 10);
@@ -239,7 +364,7 @@ fn oem_text(seeded: &mut Seeded, lines: &mut Vec<Line>) {
 }
 
 fn host_name(seeded: &mut Seeded, lines: &mut Vec<Line>) {
-    let field = any_field(seeded, |field| field.name.ends_with(".host"));
+    let field = any_field(seeded, lines, |field| field.name.ends_with(".host"));
     let name = any_name(seeded);
     let line = line_of(seeded, &field, &name);
     give(lines, line);

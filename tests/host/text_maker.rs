@@ -5,7 +5,7 @@ use crate::good_tables::shuffle;
 use crate::model_layout::number;
 use crate::model_notation::Notation;
 use crate::model_record::Record;
-use crate::model_text::{all_fields, Field, ISCSI_PORT, USUAL_FLAGS};
+use crate::model_text::{fields_of, Field, ISCSI_PORT, USUAL_FLAGS};
 use crate::seeded::Seeded;
 
 /// A line that says something.
@@ -15,22 +15,30 @@ pub struct Line {
     pub value: Vec<u8>,
 }
 
+impl Line {
+    /// What stands before the field's dot.
+    pub fn group(&self) -> &str {
+        self.field.split('.').next().unwrap()
+    }
+}
+
 // ---- Which fields ----
 
 /// Lines that give the record. Those that need not be given are left out or not.
 pub fn lines_of(seeded: &mut Seeded, record: &Record) -> Vec<Line> {
     let mut lines: Vec<Line> = Vec::new();
-    for field in all_fields() {
+    let fields = fields_of(record);
+    for field in &fields {
         if let Some(value) = field.value(record) {
-            let can_be_left_out = is_default(&field, &value);
+            let can_be_left_out = is_default(field, &value);
             if !can_be_left_out || seeded.once_in(3) {
-                lines.push(line_of(seeded, &field, &value));
+                lines.push(line_of(seeded, field, &value));
             }
         }
     }
-    for field in all_fields().iter().filter(|f| f.name.ends_with(".flags")) {
-        let structure = field.name.strip_suffix("flags").unwrap();
-        let is_named = lines.iter().any(|line| line.field.starts_with(structure));
+    for field in fields.iter().filter(|f| f.name.ends_with(".flags")) {
+        let structure = field.name.strip_suffix(".flags").unwrap();
+        let is_named = lines.iter().any(|line| line.group() == structure);
         if let (Some(value), false) = (field.value(record), is_named) {
             lines.push(line_of(seeded, field, &value));
         }
@@ -216,12 +224,40 @@ fn any_filled(seeded: &mut Seeded, value: &[u8], size: usize) -> Vec<u8> {
 
 // ---- Texts ----
 
+/// The lines as they are, from the last to the first, group by group in any order, with a line of
+/// each group in turn, or in any order.
+fn in_any_order(seeded: &mut Seeded, mut lines: Vec<Line>) -> Vec<Line> {
+    match seeded.between(0, 9) {
+        0 | 1 => {}
+        2 => lines.reverse(),
+        3 => {
+            let mut groups: Vec<String> = lines.iter().map(|l| l.group().to_string()).collect();
+            shuffle(seeded, &mut groups);
+            lines.sort_by_key(|line| groups.iter().position(|group| group == line.group()));
+        }
+        4 => {
+            let before = |i: usize| {
+                let same = |line: &&Line| line.group() == lines[i].group();
+                lines[..i].iter().filter(same).count()
+            };
+            let mut turns: Vec<usize> = (0..lines.len()).collect();
+            turns.sort_by_key(|i| before(*i));
+            lines = turns.iter().map(|i| lines[*i].clone()).collect();
+        }
+        _ => shuffle(seeded, &mut lines),
+    }
+    lines
+}
+
 /// The lines in any order, with comments and lines of nothing between, as Unix or Windows ends
 /// them; the last one may have no end.
-pub fn text_of_lines(seeded: &mut Seeded, mut lines: Vec<Line>) -> Vec<u8> {
-    if !seeded.once_in(4) {
-        shuffle(seeded, &mut lines);
-    }
+pub fn text_of_lines(seeded: &mut Seeded, lines: Vec<Line>) -> Vec<u8> {
+    let lines = in_any_order(seeded, lines);
+    text_in_order(seeded, lines)
+}
+
+/// The same in this order.
+pub fn text_in_order(seeded: &mut Seeded, lines: Vec<Line>) -> Vec<u8> {
     let end = seeded.one_of(&["\n", "\n", "\r\n"]);
     let odds = seeded.one_of(&[2, 5, 1_000]);
     let mut text = Vec::new();
@@ -268,7 +304,7 @@ fn line_of_nothing(seeded: &mut Seeded) -> Vec<u8> {
             b"# control single",
             b"#\0\x7F\xFF",
             b"##",
-            b"#nic0.mac x",
+            b"#nic77.mac x",
         ];
         line.extend(seeded.one_of(&comment));
     }

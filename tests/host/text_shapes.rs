@@ -2,14 +2,16 @@
 //! the same on every machine.
 
 use crate::field_maker::{note_record, note_strings, note_table, string_of_note};
-use crate::good_records::{good_record, whole_record};
-use crate::good_tables::{good_table, lent_table, table_with_structures};
+use crate::good_records::*;
+use crate::good_tables::*;
+use crate::known_extras::worked_tables;
 use crate::known_texts::{known_texts, EXAMPLE};
 use crate::known_values::{known_values, told_tables};
 use crate::model_build::least_table;
 use crate::model_layout::*;
 use crate::model_record::{record_given, Record};
 use crate::model_text::{all_fields, Field, LONGEST_TEXT};
+use crate::record_maker::Given;
 use crate::running::{fed, Fed};
 use crate::samples::SAMPLES;
 use crate::seeded::Seeded;
@@ -17,9 +19,10 @@ use crate::table_maker::*;
 use crate::table_shapes::some_of_each;
 use crate::text_damage::{any_byte, any_damage, string_too_long};
 use crate::text_maker::{lines_of, text_of_lines, Line};
+use crate::text_shapes_extras::{texts_by_number, EXTRA_FIELDS, EXTRA_TEXTS};
 
 /// Inputs of a shape: a name, how many, and how each is made.
-type Shape = (&'static str, usize, fn(&mut Seeded) -> Vec<u8>);
+pub type Shape = (&'static str, usize, fn(&mut Seeded) -> Vec<u8>);
 
 fn made(shapes: &[Shape], first_seed: u64) -> Vec<Fed> {
     let mut inputs = Vec::new();
@@ -36,9 +39,27 @@ fn made(shapes: &[Shape], first_seed: u64) -> Vec<Fed> {
 
 const TABLES: &[Shape] = &[
     ("good tables", 500, |seeded| lent_table(seeded).bytes),
-    ("fields of note", 700, fields_of_note),
-    ("strings of note", 300, strings_of_note),
-    ("built records", 400, built_record),
+    ("fields of note", 700, |seeded| {
+        noted_fields(seeded, table_with_structures)
+    }),
+    ("strings of note", 300, |seeded| {
+        noted_strings(seeded, good_table)
+    }),
+    ("built records", 400, |seeded| {
+        built_record(good_record(seeded))
+    }),
+    ("good tables with extras", 700, |seeded| {
+        table_with_extras(seeded).bytes
+    }),
+    ("fields of note, extras", 700, |seeded| {
+        noted_fields(seeded, table_with_extras)
+    }),
+    ("strings of note, extras", 500, |seeded| {
+        noted_strings(seeded, table_with_extras)
+    }),
+    ("built records with extras", 500, |seeded| {
+        built_record(record_with_an_extra(seeded))
+    }),
 ];
 
 /// How many of each shape of the check's tables, most of them refused.
@@ -59,8 +80,18 @@ pub fn all_tables() -> Vec<Fed> {
         full_table(),
         largest_table(),
         common_table(),
+        full_table_with_extras(),
+        largest_table_with_extras(),
+        table_of_the_longest_text(),
     ] {
         inputs.push(fed("tables known by name", table.mended().bytes));
+    }
+    for table in worked_tables() {
+        inputs.push(fed("tables known by name", table.bytes));
+    }
+    for n in 0..7 * 7 {
+        let table = structures_and_extras(&[], n % 7, n / 7);
+        inputs.push(fed("each number of extras", table.mended().bytes));
     }
     for table in told_tables() {
         inputs.push(fed("values known by name", table));
@@ -84,20 +115,48 @@ fn table_of_length(length: usize) -> Vec<u8> {
     table.mended().bytes
 }
 
-fn fields_of_note(seeded: &mut Seeded) -> Vec<u8> {
-    let mut table = table_with_structures(seeded);
+/// All structures and all strings there can be, each field and each string with as many letters as it
+/// can be told with.
+pub fn table_of_the_longest_text() -> Table {
+    let mut table = structures_and_extras(&[0, 1, 2, 3, 4], 6, 6);
+    for word in table.used_words() {
+        let (kind, start) = (table.kind(word), table.start(word));
+        let first_string = kind.texts[0].at as usize;
+        table.write(start + 6, &vec![0xFF; first_string - 6]);
+        table.set_flags(word, kind.named_flags as u8);
+        if kind == TARGET {
+            table.write(start + CHAP_TYPE_AT as usize, &[1]);
+        }
+        if word >= FIRST_EXTRA {
+            let index = 255 - (word - FIRST_EXTRA) as u8;
+            table.write(start + INDEX_AT as usize, &[index]);
+        }
+    }
+    for (number, entry) in table.entries().iter().enumerate() {
+        let text = match entry.is_host_name {
+            true => dots_between(128, b'h'),
+            false => vec![0xFF; entry.longest as usize],
+        };
+        table.append_text(number, &text);
+    }
+    table.write(OEM_ID.start, &[0xFF; 14]);
+    table.set_control_flags(SINGLE_LOGIN as u8);
+    table.mended()
+}
+
+fn noted_fields(seeded: &mut Seeded, make: fn(&mut Seeded) -> Table) -> Vec<u8> {
+    let mut table = make(seeded);
     note_table(seeded, &mut table);
     table.mended().bytes
 }
 
-fn strings_of_note(seeded: &mut Seeded) -> Vec<u8> {
-    let mut table = good_table(seeded);
+fn noted_strings(seeded: &mut Seeded, make: fn(&mut Seeded) -> Table) -> Vec<u8> {
+    let mut table = make(seeded);
     note_strings(seeded, &mut table);
     table.mended().bytes
 }
 
-fn built_record(seeded: &mut Seeded) -> Vec<u8> {
-    let given = good_record(seeded);
+fn built_record(given: Given) -> Vec<u8> {
     least_table(&given.record, given.strings()).unwrap()
 }
 
@@ -124,17 +183,26 @@ pub fn all_texts() -> Vec<Fed> {
         bytes: EXAMPLE.as_bytes().to_vec(),
         piece: 100,
     });
+    inputs.extend(SAMPLES.iter().map(|sample| Fed {
+        name: "samples in pieces",
+        bytes: sample.told.as_bytes().to_vec(),
+        piece: 100,
+    }));
     for known in known_texts() {
         inputs.push(fed("known texts", known.text));
     }
     inputs.extend(each_value());
     inputs.extend(made(TEXTS, 0xE17E_0000_0000_0000));
+    inputs.extend(texts_by_number());
+    inputs.extend(made(EXTRA_TEXTS, 0xE17E_4000_0000_0000));
     inputs
 }
 
-/// Each known value in each field of its notation, and in one of another.
+/// Each known value in each field of its notation, of an extra NIC's and an extra target's too, and in
+/// one of another.
 fn each_value() -> Vec<Fed> {
-    let fields = all_fields();
+    let mut fields = all_fields();
+    fields.extend(EXTRA_FIELDS.iter().flat_map(|group| group.fields()));
     let mut inputs = Vec::new();
     let mut add = |field: &Field, value: &[u8]| {
         let line = [b"\n", field.name.as_bytes(), b" ", value, b"\n"].concat();
@@ -152,7 +220,7 @@ fn each_value() -> Vec<Fed> {
     inputs
 }
 
-/// A record, and a text that gives it.
+/// A record without extras, and a text that gives it.
 pub fn any_text(seeded: &mut Seeded) -> (Record, Vec<u8>) {
     let (record, lines) = any_lines(seeded);
     (record, text_of_lines(seeded, lines))
@@ -163,11 +231,17 @@ fn any_lines(seeded: &mut Seeded) -> (Record, Vec<Line>) {
         true => whole_record(seeded, None, 255),
         false => good_record(seeded),
     };
+    noted_lines(seeded, &given)
+}
+
+/// A record with some values of note in place of its own, and lines that give it.
+pub fn noted_lines(seeded: &mut Seeded, given: &Given) -> (Record, Vec<Line>) {
     let mut record = record_given(&given.record, given.strings());
     note_record(seeded, &mut record);
-    for entry in (0..ENTRIES.len()).filter(|entry| !ENTRIES[*entry].is_host_name) {
-        if record.entries[entry].is_some() && seeded.once_in(3) {
-            record.entries[entry] = Some(string_of_note(seeded));
+    for (number, entry) in entries_of(&record.kinds()).iter().enumerate() {
+        let may_be_noted = record.entries[number].is_some() && !entry.is_host_name;
+        if may_be_noted && seeded.once_in(3) {
+            record.entries[number] = Some(string_of_note(seeded));
         }
     }
     let lines = lines_of(seeded, &record);

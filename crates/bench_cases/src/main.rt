@@ -1,8 +1,24 @@
 // The builds of RULES.md, Worked cases, that are run and compared: a line for each. Cases 1 to 12 are proved as one table in specs/.
 // Standard input holds the table of case 5, the one that `show` is tested on.
 use build_rules::Built;
+use build_rules::range::BASE_SIZE;
+use build_rules::range::ENTRY_MARKS_AT;
+use build_rules::range::INDEX_AT;
+use build_rules::range::INITIATOR_AT;
+use build_rules::range::LARGEST_SIZE;
+use build_rules::range::MARKS_AT;
+use build_rules::range::TARGET_0_AT;
+use build_rules::range::image_at;
+use build_rules::range::nic_image;
+use build_rules::range::target_image;
 use ibft_build::build::build;
 use ibft_table::check::check;
+use ibft_table::layout::EXTRA_MOST;
+use ibft_table::layout::LEAST_INDEX;
+use ibft_table::layout::owner_of;
+use ibft_table::layout::string_of;
+use ibft_table::nic::Nic;
+use ibft_table::target::Target;
 use ibft_table::verdict::Verdict;
 use octets::read::byte_at;
 use octets::read::part;
@@ -11,17 +27,13 @@ use octets::write::put_bytes;
 use octets::write::put_u16;
 
 // Where the record range has its marks and images.
-const SLOT_MARKS: usize = 15;
+const SLOT_MARKS: usize = MARKS_AT as usize;
 
-const ENTRY_MARKS: usize = 20;
+const ENTRY_MARKS: usize = ENTRY_MARKS_AT as usize;
 
-const INITIATOR: usize = 33;
+const INITIATOR: usize = INITIATOR_AT as usize;
 
-const TARGET_0: usize = 209;
-
-const EXTRA_NICS: u16 = 421;
-
-const EXTRA_TARGETS: u16 = 1039;
+const TARGET_0: usize = TARGET_0_AT as usize;
 
 fn print_number(before: &[u8], n: u64) {
     io::write_all(1, before);
@@ -45,7 +57,7 @@ fn end_line() {
 
 // The initiator alone, its name so many letters.
 fn long_name(name: &[u8], letters: u16) {
-    let mut range = [0u8; 419];
+    let mut range = [0u8; BASE_SIZE as usize];
     put_byte(&mut range, SLOT_MARKS, 1);
     put_byte(&mut range, ENTRY_MARKS, 1);
     put_u16(&mut range, INITIATOR + 70, letters);
@@ -101,7 +113,7 @@ fn print_check(t: &[u8]) {
 // Case 5 into this room: the answer, whether the room then holds the table on standard input, its bytes at 0 and 133 (0 where it
 // has none), and what the check says of it.
 fn case_5(name: &[u8], table: &[u8], room: &mut [u8]) {
-    let mut range = [0u8; 419];
+    let mut range = [0u8; BASE_SIZE as usize];
     lay_case_5(&mut range);
     let built = build(&range, b"depot7", room);
     print_built(name, built);
@@ -122,65 +134,6 @@ fn case_5_rooms(table: &[u8]) {
     case_5(b"case 5 into 200", table, &mut large);
 }
 
-// Where the record range holds the length of each entry of the named slots.
-fn named_field(n: u8) -> u16 {
-    match n {
-        0 => 103,
-        1 => 205,
-        2 => 243,
-        3 => 247,
-        4 => 251,
-        5 => 255,
-        6 => 259,
-        7 => 361,
-        8 => 399,
-        9 => 403,
-        10 => 407,
-        11 => 411,
-        _ => 415,
-    }
-}
-
-// Where the image of the i-th extra NIC starts, and of the i-th extra target behind six extra NICs.
-fn nic_image(i: u8) -> u16 {
-    EXTRA_NICS + 103 * i as u16
-}
-
-fn target_image(i: u8) -> u16 {
-    EXTRA_TARGETS + 59 * i as u16
-}
-
-// Where the range holds each entry's length; its start stands 2 further. Behind the named slots' come the hosts of six extra NICs,
-// then five strings for each extra target.
-fn field_of(n: u8) -> u16 {
-    if n < 13 {
-        return named_field(n);
-    }
-    if n < 19 {
-        return EXTRA_NICS + 98 + 103 * (n - 13) as u16;
-    }
-    EXTRA_TARGETS + 34 + 59 * ((n - 19) / 5) as u16 + 4 * ((n - 19) % 5) as u16
-}
-
-// Names have at most 223 bytes: the initiator's and each target's.
-fn longest(n: u8) -> u16 {
-    match n {
-        0 => 223,
-        2 => 223,
-        8 => 223,
-        _ => longest_extra(n),
-    }
-}
-
-fn longest_extra(n: u8) -> u16 {
-    if 19 <= n {
-        if (n - 19) % 5 == 0 {
-            return 223;
-        }
-    }
-    255
-}
-
 // Entry n of the largest record has four labels of its own letter, small or capital.
 fn letter(n: u8, k: u8) -> u8 {
     if k % 64 == 63 {
@@ -199,10 +152,12 @@ fn lay_string(strings: &mut [u8], n: u8) {
     }
 }
 
+// Its words in the range, which is to have its numbers of extras by then. It is as long as it may be.
 fn lay_entry(range: &mut [u8], strings: &mut [u8], n: u8) {
     lay_string(strings, n);
-    let field = field_of(n) as usize;
-    put_u16(range, field, longest(n));
+    let string = string_of(n as u16);
+    let field = image_at(range, owner_of(n as u16)) as usize + string.at as usize;
+    put_u16(range, field, string.longest);
     put_u16(range, field + 2, 256 * n as u16);
 }
 
@@ -215,18 +170,22 @@ fn lay_entries(range: &mut [u8], strings: &mut [u8], count: u8) {
 // The i-th extra NIC and the i-th extra target: their Index, and the marks of their entries.
 fn lay_extras(range: &mut [u8], i: u8) {
     let nic = nic_image(i) as usize;
-    put_byte(range, nic + 4, 2 + i % 6);
-    put_byte(range, nic + 102, 1);
-    let target = target_image(i) as usize;
-    put_byte(range, target + 4, 2 + i % 6);
+    put_byte(range, nic + INDEX_AT as usize, LEAST_INDEX + i % EXTRA_MOST);
+    put_byte(range, nic + Nic::LENGTH as usize, 1);
+    let target = target_image(range, i) as usize;
+    put_byte(
+        range,
+        target + INDEX_AT as usize,
+        LEAST_INDEX + i % EXTRA_MOST,
+    );
     let marks = [1u8; 5];
-    put_bytes(range, target + 54, &marks);
+    put_bytes(range, target + Target::LENGTH as usize, &marks);
 }
 
 fn lay_all_extras(range: &mut [u8]) {
-    put_byte(range, 419, 6);
-    put_byte(range, 420, 6);
-    for i in 0..6u8 {
+    put_byte(range, BASE_SIZE as usize, EXTRA_MOST);
+    put_byte(range, BASE_SIZE as usize + 1, EXTRA_MOST);
+    for i in 0..EXTRA_MOST {
         lay_extras(range, i);
     }
 }
@@ -240,7 +199,7 @@ fn print_large(name: &[u8], range: &[u8], strings: &[u8], room: &mut [u8]) {
 
 // The largest record without extras, into as many bytes as it takes and into one less.
 fn largest_named() {
-    let mut range = [0u8; 419];
+    let mut range = [0u8; BASE_SIZE as usize];
     let mut strings = [0u8; 3328];
     let marks = [1u8; 18];
     put_bytes(&mut range, SLOT_MARKS, &marks);
@@ -263,7 +222,7 @@ fn largest_named() {
 
 // The largest record there is.
 fn largest() {
-    let mut range = [0u8; 1393];
+    let mut range = [0u8; LARGEST_SIZE as usize];
     let mut strings = [0u8; 12544];
     let marks = [1u8; 18];
     put_bytes(&mut range, SLOT_MARKS, &marks);

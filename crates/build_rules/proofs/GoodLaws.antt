@@ -1,6 +1,6 @@
 -- The contents of a record range that is not refused are good: each fact of `Good` is what one test leaves. The range is then long
 -- enough that each field and each given image lies in it whole, and its extras are packed.
---     given-past, given-below    nothing is given past the last slot
+--     given-below                nothing is given past the last slot
 --     range-long, image-fits     the images given lie in the range
 --     extras-good                its extras: at most six of a kind, by ascending Index
 --     contents-good              contents not refused are good
@@ -31,6 +31,7 @@ use Rattle.build_rules.specs.RecordRange.{baseSize, nicsAt, nicsGiven, t
 use Rattle.build_rules.specs.Refusals.{rangeTests, indexTests, extrasTests, flagsTests, imageTests, stringTests, contentsTests, contentsVerdict}
 use Rattle.build_rules.specs.Plan.{isPresent}
 use Rattle.build_rules.specs.Computing.{computing}
+use Rattle.build_rules.proofs.RecordRangeLaws.{nic-given, target-given, nic-image, target-image, given-past}
 use Rattle.build_rules.proofs.GoodContent.{GoodBody, GoodEntry, Packed, Good}
 
 -- ---- images of the named slots, by computation
@@ -45,43 +46,11 @@ named-fits k h =
     (any-none namedCount (λ (k : ℕ). ltb baseSize (namedImage k + (kindOf k) .length)) named-fit k h)
 
 module _ (r : List ℕ) where
-  -- ---- given structures and their images, by what is said of extras
-
-  module _ (i : ℕ) (h : i < extraMost) where
-    pub nic-given : structureGiven r (extraNics + i) ≡ ltb i (nicsGiven r)
-    unfolding structureGiven
-    nic-given =
-        rw (le-ltb (extraNics + i) namedCount (omega arith), lt-ltb (extraNics + i) extraTargets (omega arith))
-        (ap (λ (j : ℕ). ltb j (nicsGiven r)) (omega arith))
-
-    pub target-given : structureGiven r (extraTargets + i) ≡ ltb i (targetsGiven r)
-    unfolding structureGiven
-    target-given =
-        rw (le-ltb (extraTargets + i) namedCount (omega arith), le-ltb (extraTargets + i) extraTargets (omega arith), lt-ltb (extraTargets + i) slotCount (omega arith))
-        (ap (λ (j : ℕ). ltb j (targetsGiven r)) (omega arith))
-
-    pub nic-image : imageAt r (extraNics + i) ≡ nicImage i
-    unfolding imageAt
-    nic-image =
-        rw (le-ltb (extraNics + i) namedCount (omega arith), lt-ltb (extraNics + i) extraTargets (omega arith))
-        (ap nicImage (omega arith))
-
-    pub target-image : imageAt r (extraTargets + i) ≡ targetImage r i
-    unfolding imageAt
-    target-image =
-        rw (le-ltb (extraTargets + i) namedCount (omega arith), le-ltb (extraTargets + i) extraTargets (omega arith))
-        (ap (targetImage r) (omega arith))
-
-  -- past the last slot nothing is given
-  pub given-past : (k : ℕ) → slotCount ≤ k → structureGiven r k ≡ false
-  unfolding structureGiven
-  given-past k h = rw (le-ltb k namedCount (omega arith), le-ltb k extraTargets (omega arith), le-ltb k slotCount h)
-
   pub given-below : (k : ℕ) → structureGiven r k ≡ true → k < slotCount
   given-below k on =
       elim (decLt k slotCount) [
         | yes l ↦ l
-        | no l ↦ clash on (given-past k (omega arith))
+        | no l ↦ clash on (given-past r k (omega arith))
       ]
 
   -- ---- the range
@@ -129,21 +98,21 @@ module _ (r : List ℕ) where
 
       nics : (i : ℕ) → i < extraMost → k ≡ extraNics + i → imageAt r k + (kindOf k) .length ≤ length r
       nics i h z =
-          let given : i < nicsGiven r = ltb-true i (nicsGiven r) (sym (nic-given i h) ∙ ap (structureGiven r) (sym z) ∙ on) in
+          let given : i < nicsGiven r = ltb-true i (nicsGiven r) (sym (nic-given r i h) ∙ ap (structureGiven r) (sym z) ∙ on) in
           omega (
             arith,
             long .nics i given,
-            ap (imageAt r) z ∙ nic-image i h,
+            ap (imageAt r) z ∙ nic-image r i h,
             ap (λ (j : ℕ). (kindOf j) .length) z ∙ ap (λ (κ : Kind). κ .length) (nic-slot i h),
           )
 
       targets : (i : ℕ) → i < extraMost → k ≡ extraTargets + i → imageAt r k + (kindOf k) .length ≤ length r
       targets i h z =
-          let given : i < targetsGiven r = ltb-true i (targetsGiven r) (sym (target-given i h) ∙ ap (structureGiven r) (sym z) ∙ on) in
+          let given : i < targetsGiven r = ltb-true i (targetsGiven r) (sym (target-given r i h) ∙ ap (structureGiven r) (sym z) ∙ on) in
           omega (
             arith,
             long .targets i given,
-            ap (imageAt r) z ∙ target-image i h,
+            ap (imageAt r) z ∙ target-image r i h,
             ap (λ (j : ℕ). (kindOf j) .length) z ∙ ap (λ (κ : Kind). κ .length) (target-slot i h),
           )
 
@@ -222,13 +191,13 @@ module _ (r : List ℕ) where
       unfolding indexGiven
       nic-index h =
           let six : i < extraMost = omega (arith, nics-most) in
-          rw (le-ltb (extraNics + i) namedCount (omega arith), nic-given i six, lt-ltb i (nicsGiven r) h) (ap (λ (a : ℕ). byte r (a + 4)) (nic-image i six))
+          rw (le-ltb (extraNics + i) namedCount (omega arith), nic-given r i six, lt-ltb i (nicsGiven r) h) (ap (λ (a : ℕ). byte r (a + 4)) (nic-image r i six))
 
       target-index : i < targetsGiven r → indexGiven r (extraTargets + i) ≡ byte r (targetImage r i + 4)
       unfolding indexGiven
       target-index h =
           let six : i < extraMost = omega (arith, targets-most) in
-          rw (le-ltb (extraTargets + i) namedCount (omega arith), target-given i six, lt-ltb i (targetsGiven r) h) (ap (λ (a : ℕ). byte r (a + 4)) (target-image i six))
+          rw (le-ltb (extraTargets + i) namedCount (omega arith), target-given r i six, lt-ltb i (targetsGiven r) h) (ap (λ (a : ℕ). byte r (a + 4)) (target-image r i six))
 
     -- an extra that is given has an Index from 2 on
     index-least : (k : ℕ) → namedCount ≤ k → structureGiven r k ≡ true → leastIndex ≤ indexGiven r k
@@ -240,12 +209,12 @@ module _ (r : List ℕ) where
       where
         nics : (i : ℕ) → i < extraMost → k ≡ extraNics + i → leastIndex ≤ indexGiven r k
         nics i h z =
-            let given : i < nicsGiven r = ltb-true i (nicsGiven r) (sym (nic-given i h) ∙ ap (structureGiven r) (sym z) ∙ on) in
+            let given : i < nicsGiven r = ltb-true i (nicsGiven r) (sym (nic-given r i h) ∙ ap (structureGiven r) (sym z) ∙ on) in
             omega (arith, ap (indexGiven r) z ∙ nic-index i given, extras-index nicImage extraNics (nicsGiven r) (groups .0) i given)
 
         targets : (i : ℕ) → i < extraMost → k ≡ extraTargets + i → leastIndex ≤ indexGiven r k
         targets i h z =
-            let given : i < targetsGiven r = ltb-true i (targetsGiven r) (sym (target-given i h) ∙ ap (structureGiven r) (sym z) ∙ on) in
+            let given : i < targetsGiven r = ltb-true i (targetsGiven r) (sym (target-given r i h) ∙ ap (structureGiven r) (sym z) ∙ on) in
             omega (
               arith,
               ap (indexGiven r) z ∙ target-index i given,
@@ -266,8 +235,8 @@ module _ (r : List ℕ) where
     extras-good s = record {
       nics = nics-most;
       targets = targets-most;
-      nics-are = λ i h. present-given s (extraNics + i) ∙ nic-given i h;
-      targets-are = λ i h. present-given s (extraTargets + i) ∙ target-given i h;
+      nics-are = λ i h. present-given s (extraNics + i) ∙ nic-given r i h;
+      targets-are = λ i h. present-given s (extraTargets + i) ∙ target-given r i h;
       index = λ k l on. index-least k l (sym (present-given s k) ∙ on);
       nic-up = λ i j l h.
           omega (arith, nic-index i (omega arith), nic-index j h, extras-up nicImage extraNics (nicsGiven r) (groups .0) i j l h);

@@ -4,69 +4,36 @@
 --     oem-part, flags-read, nics-read, targets-read     the fields at fixed places
 --     slot-mark, entry-mark, extra-mark                 the presence marks
 --     image-lies, image-read                            the images
---     given-same, entry-same                            the structures and entries given are those that the table holds
+--     size-read, offset-read, bytes-read                the strings
 --     reads                                             all that a build reads
 -- Assumes nothing.
-use mathlib.Core.Path.{_≡_, refl, sym, ap, _∙_, subst}
+use mathlib.Core.Path.{_≡_, refl, sym, ap, ap₂, _∙_}
 use mathlib.Core.Bool.{Bool, true, false, cond}
 use mathlib.Core.List.{List, [], _∷_, _++_}
 use Prim.Native.Nat.{ℕ, suc, _+_, _*_, _-_, _≤_, _<_, min}
 use native.Mathlib.Nat.{zero-add, mul-suc}
 use native.Mathlib.Decide.{decLt}
 use native.Mathlib.Omega.{arith}
-use borrow.Author.Tests.{lt-ltb, le-ltb, ltb-true, ltb-false}
+use borrow.Author.Tests.{lt-ltb, ltb-true, ltb-false}
 use lib.ListN.{length, length-append, List·getD-append}
-use lib.Dec.{eqb, ltb}
+use lib.Dec.{ltb}
 use Rattle.octets.specs.Counting.{sumTo, count, tabulate, gather}
-use Rattle.octets.specs.Octets.{byte, part, zeros}
+use Rattle.octets.specs.Octets.{byte, word16, part, zeros}
 use Rattle.octets.proofs.CountingLaws.{length-tabulate, getD-tabulate, getD-tabulate-from}
 use Rattle.octets.proofs.ReadLaws.{part-length, part-at, part-within}
 use Rattle.octets.proofs.LiesLaws.{Lies, lies-front, lies-last, lies-behind, lies-within, gather-length, gather-lies, gather-ends, lies-part}
 use Rattle.octets.proofs.WriteLaws.{length-zeros}
-use Rattle.ibft_table.specs.Layout.{Kind, nic, target, kindOf, entryCount, slotCount, namedCount, namedEntries, mostWords, extraMost, extraNics, extraTargets, ownerOf, firstEntry}
-use Rattle.ibft_table.specs.Table.{startsOf, nicsIn, holdsIn, startOf, present, holdsEntry}
+use Rattle.ibft_table.specs.Layout.{Kind, nic, target, kindOf, entryCount, slotCount, namedCount, namedEntries, mostWords, extraMost, extraNics, extraTargets, ownerOf, stringOf, firstEntry}
+use Rattle.ibft_table.specs.Table.{startsOf, nicsIn, fieldIn, sizeIn, offsetIn, startOf, present, sizeOf, offsetOf, holdsEntry}
 use Rattle.ibft_table.specs.Check.{checkOf}
 use Rattle.ibft_table.specs.declared.verdict.Verdict.the-variants.{Accepted}
-use Rattle.ibft_table.proofs.LayoutLaws.{owner-later}
-use Rattle.ibft_laws.proofs.LayoutLaws.{entry-fits}
-use Rattle.ibft_laws.proofs.TableLaws.{present-past, present-below, facts, length-least, length-le, slot-end-le}
+use Rattle.ibft_laws.proofs.LayoutLaws.{slot-fits, entry-inside}
+use Rattle.ibft_laws.proofs.TableLaws.{present-below, facts, length-least, length-le, slot-end-le, entry-owner-on, entry-kept}
 use Rattle.ibft_laws.proofs.NumberingLaws.{ExtrasOf, nic-extras, target-extras, extras-are, nics-most, nics-are, targets-most, targets-are}
-use Rattle.build_rules.specs.RecordRange.{marksAt, nicsAt, nicsGiven, targetsGiven, extraSize, nicImage, targetImage, rangeSize, namedImage, imageAt, markAt, structureGiven, entryGiven}
+use Rattle.build_rules.specs.RecordRange.{marksAt, nicsAt, nicsGiven, targetsGiven, extraSize, nicImage, targetImage, rangeSize, namedImage, imageAt, lengthGiven, startGiven, bytesGiven}
 use Rattle.build_rules.specs.Rebuild.{mark, marksIn, imageIn, extraIn, targetsIn, rangeIn, rangeOf}
-use Rattle.build_rules.proofs.GoodLaws.{nic-given, target-given, nic-image, target-image, given-past}
-
--- what the record range of a table says where a build reads it
-pub record Reads (t : List ℕ) : Type 0 where
-  pub size : length (rangeOf t) ≡ rangeSize (rangeOf t)
-  pub oem-id : part (rangeOf t) 0 6 ≡ part t 10 6
-  pub oem-table-id : part (rangeOf t) 6 8 ≡ part t 16 8
-  pub flags : byte (rangeOf t) 14 ≡ byte t 53
-  pub nics : nicsGiven (rangeOf t) ≡ nicsIn (startsOf t)
-  pub targets : targetsGiven (rangeOf t) ≡ targetsIn (startsOf t)
-  -- the presence marks are 0 or 1
-  pub marks : (j : ℕ) → j < namedCount + namedEntries → byte (rangeOf t) (marksAt + j) ≤ 1
-  pub nic-marks : (i j : ℕ) → i < nicsIn (startsOf t) → j < length (nic .stringFields) → byte (rangeOf t) (nicImage i + nic .length + j) ≤ 1
-  pub target-marks : (i j : ℕ) → i < targetsIn (startsOf t) → j < length (target .stringFields)
-      → byte (rangeOf t) (targetImage (rangeOf t) i + target .length + j) ≤ 1
-  -- structures, their images, their entries
-  pub given : (k : ℕ) → structureGiven (rangeOf t) k ≡ present t k
-  pub image : (k : ℕ) → present t k ≡ true → (j : ℕ) → j < (kindOf k) .length
-      → byte (rangeOf t) (imageAt (rangeOf t) k + j) ≡ byte t (startOf t k + j)
-  pub entry : (n : ℕ) → n < entryCount → entryGiven (rangeOf t) n ≡ holdsEntry t n
-
--- a mark is 0 or 1, and says what it marks
-mark-most : (b : Bool) → mark b ≤ 1
-mark-most true = omega arith
-mark-most false = omega arith
-
-mark-says : (b : Bool) → eqb (mark b) 1 ≡ b
-mark-says true = refl
-mark-says false = refl
-
--- a named slot is given where its mark says so
-named-given : (r : List ℕ) (k : ℕ) → k < namedCount → structureGiven r k ≡ eqb (byte r (marksAt + k)) 1
-unfolding structureGiven
-named-given r k h = rw (lt-ltb k namedCount h)
+use Rattle.build_rules.proofs.ReadsLaws.{Reads}
+use Rattle.build_rules.proofs.RecordRangeLaws.{nic-image, target-image}
 
 module _ (t : List ℕ) (ok : checkOf t ≡ Accepted) where
   -- ---- the pieces
@@ -396,87 +363,38 @@ module _ (t : List ℕ) (ok : checkOf t ≡ Accepted) where
       (omega (arith, marks-length (firstEntry k) (strings k)))
       ∙ marks-at (firstEntry k) (strings k) j h
 
-  -- ---- what is given
+  -- ---- the strings are the table's
 
-  pub given-same : (k : ℕ) → structureGiven (rangeOf t) k ≡ present t k
-  unfolding targetsIn
-  given-same k =
-      elim (decLt k namedCount) [
-        | yes l ↦ named-given (rangeOf t) k l ∙ ap (λ (m : ℕ). eqb m 1) (slot-mark k l) ∙ mark-says (present t k)
-        | no l ↦ elim (decLt k extraTargets) [
-          | yes m ↦
-              let i : ℕ = k - extraNics in
-              let h : i < extraMost = omega arith in
-              let z : k ≡ extraNics + i = omega arith in
-              rw z (nic-given (rangeOf t) i h ∙ ap (ltb i) nics-read ∙ sym (nics-are t (facts t ok) i h))
-          | no m ↦ elim (decLt k slotCount) [
-            | yes below ↦
-                let i : ℕ = k - extraTargets in
-                let h : i < extraMost = omega arith in
-                let z : k ≡ extraTargets + i = omega arith in
-                rw z (target-given (rangeOf t) i h ∙ ap (ltb i) targets-read ∙ sym (targets-are t (facts t ok) i h))
-            | no past ↦ given-past (rangeOf t) k (omega arith) ∙ sym (present-past t k (omega arith))
-          ]
-        ]
-      ]
+  image-word : (k j : ℕ) → present t k ≡ true → j + 1 < (kindOf k) .length → word16 (rangeOf t) (imageAt (rangeOf t) k + j) ≡ word16 t (startOf t k + j)
+  image-word k j on l =
+      let r : List ℕ = rangeOf t in
+      let next : byte r (imageAt r k + j + 1) ≡ byte t (startOf t k + j + 1) =
+      ap (byte r) (omega arith) ∙ image-read k on (j + 1) l ∙ ap (byte t) (omega arith) in
+      omega (arith, image-read k on j (omega arith), next)
 
-  mark-read : (n : ℕ) → n < entryCount → present t (ownerOf n) ≡ true → byte (rangeOf t) (markAt (rangeOf t) n) ≡ mark (holdsEntry t n)
-  unfolding markAt
-  mark-read n h on =
-      elim (decLt n namedEntries) [
-        | yes l ↦ rw (lt-ltb n namedEntries l) (entry-mark n l)
-        | no l ↦
-            let fits = entry-fits n h in
-            let own : n - firstEntry (ownerOf n) < length ((kindOf (ownerOf n)) .stringFields) = omega (arith, fits .from, fits .below) in
-            rw (le-ltb n namedEntries (omega arith))
-            (extra-mark (ownerOf n) (owner-later n (omega arith)) on (n - firstEntry (ownerOf n)) own
-            ∙ ap (λ (m : ℕ). mark (holdsEntry t m)) (omega (arith, fits .from)))
-      ]
+  module _ (n : ℕ) (h : n < entryCount) (on : holdsEntry t n ≡ true) where
+    size-read : lengthGiven (rangeOf t) n ≡ sizeOf t n
+    unfolding lengthGiven sizeIn fieldIn
+    size-read = image-word (ownerOf n) ((stringOf n) .at) (entry-owner-on t n on) (omega (arith, entry-inside n h))
 
-  pub entry-same : (n : ℕ) → n < entryCount → entryGiven (rangeOf t) n ≡ holdsEntry t n
-  unfolding entryGiven holdsIn
-  entry-same n h = go (present t (ownerOf n)) refl
-    where
-      go : (b : Bool) → present t (ownerOf n) ≡ b → entryGiven (rangeOf t) n ≡ holdsEntry t n
-      go true on = rw (given-same (ownerOf n) ∙ on) (ap (λ (m : ℕ). eqb m 1) (mark-read n h on) ∙ mark-says (holdsEntry t n))
-      go false off = rw (given-same (ownerOf n), off)
+    offset-read : startGiven (rangeOf t) n ≡ offsetOf t n
+    unfolding startGiven offsetIn fieldIn
+    offset-read =
+        let r : List ℕ = rangeOf t in
+        ap (word16 r) (omega arith)
+        ∙ image-word (ownerOf n) ((stringOf n) .at + 2) (entry-owner-on t n on) (omega (arith, entry-inside n h))
+        ∙ ap (word16 t) (omega arith)
 
-  -- ---- the marks are 0 or 1
+    bytes-read : bytesGiven (rangeOf t) t n ≡ part t (offsetOf t n) (sizeOf t n)
+    unfolding bytesGiven
+    bytes-read = ap₂ (part t) offset-read size-read
 
-  named-marks : (j : ℕ) → j < namedCount + namedEntries → byte (rangeOf t) (marksAt + j) ≤ 1
-  named-marks j h =
-      elim (decLt j namedCount) [
-        | yes l ↦ omega (arith, slot-mark j l, mark-most (present t j))
-        | no l ↦
-            let n : ℕ = j - namedCount in
-            let z : marksAt + j ≡ marksAt + namedCount + n = omega arith in
-            rw z (omega (arith, entry-mark n (omega arith), mark-most (holdsEntry t n)))
-      ]
-
-  extra-marks : (kind : Kind) (first : ℕ) (o : ExtrasOf kind first) (i : ℕ) → i < extraMost → present t (first + i) ≡ true
-      → (j : ℕ) → j < length (kind .stringFields) → byte (rangeOf t) (imageAt (rangeOf t) (first + i) + kind .length + j) ≤ 1
-  extra-marks kind first o i h on =
-      subst (λ (κ : Kind). (j : ℕ) → j < length (κ .stringFields) → byte (rangeOf t) (imageAt (rangeOf t) (first + i) + κ .length + j) ≤ 1)
-      (o .kinds i h)
-      (λ j l. omega (arith, extra-mark (first + i) (omega (arith, o .low)) on j l, mark-most (holdsEntry t (firstEntry (first + i) + j))))
-
-  nic-marks : (i j : ℕ) → i < nics → j < length (nic .stringFields) → byte (rangeOf t) (nicImage i + nic .length + j) ≤ 1
-  nic-marks i j l h =
-      let f = facts t ok in
-      let below : i < extraMost = omega (arith, nics-most t f) in
-      rw (nic-image (rangeOf t) i below) at (extra-marks nic extraNics nic-extras i below (nics-are t f i below ∙ lt-ltb i nics l) j h)
-
-  target-marks : (i j : ℕ) → i < targets → j < length (target .stringFields)
-      → byte (rangeOf t) (targetImage (rangeOf t) i + target .length + j) ≤ 1
-  unfolding targetsIn
-  target-marks i j l h =
-      let f = facts t ok in
-      let below : i < extraMost = omega (arith, targets-most t f) in
-      rw (target-image (rangeOf t) i below) at (extra-marks target extraTargets target-extras i below (targets-are t f i below ∙ lt-ltb i targets l) j h)
+    string-inside : startGiven (rangeOf t) n + lengthGiven (rangeOf t) n ≤ length t
+    string-inside = omega (arith, size-read, offset-read, entry-kept t ok n h on .high, length-le t ok)
 
   -- ---- the whole
 
-  pub reads : Reads t
+  pub reads : Reads t (rangeOf t) t
   unfolding rangeSize targetImage nicImage
   reads =
       record {
@@ -486,10 +404,12 @@ module _ (t : List ℕ) (ok : checkOf t ≡ Accepted) where
         flags = flags-read;
         nics = nics-read;
         targets = targets-read;
-        marks = named-marks;
-        nic-marks = nic-marks;
-        target-marks = target-marks;
-        given = given-same;
-        image = image-read;
-        entry = entry-same;
+        slot-mark = slot-mark;
+        entry-mark = entry-mark;
+        extra-mark = extra-mark;
+        index = λ k low on. let fits = slot-fits k (present-below t k on) in image-read k on 4 (omega (arith, fits .flags, fits .words));
+        image = λ k on j low l. image-read k on j (omega (arith, slot-fits k (present-below t k on) .words));
+        long = size-read;
+        inside = string-inside;
+        bytes = bytes-read;
       }

@@ -2,6 +2,7 @@
 -- strings; so what the build promises, the rebuild does. And since equal records have equal tables, what was rebuilt is rebuilt as it is.
 --     table-built                                    what an accepted build leaves is the table of its content
 --     tables-tell-records                            two records that build are equal exactly where their tables are
+--     record-read, clean-accepted, read-builds       a range that says what an accepted table holds, built
 --     answer-range, room-range                       a rebuild of an accepted table as a build
 --     rebuilds-the-same, rebuild-promise             the promises
 --     rebuild-refused                                that of a table that the check refuses
@@ -47,6 +48,7 @@ use Rattle.build_rules.proofs.OutcomeLaws.{Refuses, Wants, Builds, outc
 use Rattle.build_rules.proofs.SpreadLaws.{spread, given-spread, records-tables}
 use Rattle.build_rules.proofs.ServesLaws.{serves-append}
 use Rattle.build_rules.proofs.PromiseLaws.{promise}
+use Rattle.build_rules.proofs.ReadsLaws.{Reads}
 use Rattle.build_rules.proofs.RangeLaws.{reads}
 use Rattle.build_rules.proofs.RangeVerdictLaws.{content-range, contents-range}
 
@@ -89,33 +91,66 @@ tables-tell-records r s room r′ s′ room′ p q = (
       record-built r s room p ∙ ap (λ (l : List ℕ). recordOf (l ++ [])) same ∙ sym (record-built r′ s′ room′ q),
 )
 
+-- ---- a range that says what an accepted table holds: a build of it leaves the table's record
+
+-- where the contents are not refused and the room takes the table, it is built
+enough-builds : (r s : List ℕ) → contentsVerdict r s ≡ Accepted → (room : List ℕ) → lengthBuilt (contentGiven r s) ≤ length room
+    → (answerOf r s (length room)) .refusal .number ≡ 0
+unfolding answerOf answerFrom refusalOf
+enough-builds r s accepted room enough =
+    ⊎-elim (λ w. accepted-not-refused accepted (w .1 .contents))
+    (⊎-elim (λ w. absurd (omega (arith, w .short))) (λ w. ap (λ (v : Verdict). (answerFrom r s v) .refusal .number) (w .verdict)))
+    (outcome r s (length room))
+
+module _ (t r s : List ℕ) (ok : checkOf t ≡ Accepted) (told : Reads t r s) where
+  pub record-read : recordGiven r s ≡ recordOf t
+  unfolding recordGiven recordOf
+  record-read = ap listed (content-range t r s ok told)
+
+  pub clean-accepted : Clean t → contentsVerdict r s ≡ Accepted
+  unfolding zeroTests
+  clean-accepted clean =
+      contents-range t r s ok told
+      ∙ gather-accepts (zeroTests (startsOf t) t) entryCount 0 (λ n l h. accept-cons _ _ (clean n (omega arith)) accept-none)
+
+  accepted-clean : contentsVerdict r s ≡ Accepted → Clean t
+  unfolding zeroTests
+  accepted-clean e n h =
+      passes _ _ (gather-passes (zeroTests (startsOf t) t) entryCount 0 n (sym (contents-range t r s ok told) ∙ e) (omega arith) (omega arith)) .0
+
+  -- what the room then holds reads as the record
+  built-reads : (room : List ℕ) (built : (answerOf r s (length room)) .refusal .number ≡ 0) → recordOf (roomAfter r s room) ≡ recordOf t
+  unfolding roomAfter roomFrom recordGiven
+  built-reads room built =
+      let c : Content = contentGiven r s in
+      ap (λ (v : Verdict). recordOf (roomFrom r s room v)) (builds r s room built .verdict)
+      ∙ serves-append c (good r s room built) (drop (lengthBuilt c) room) .reads-back
+      ∙ record-read
+
+  pub read-builds : Clean t → (room : List ℕ) → lengthBuilt (contentGiven r s) ≤ length room
+      → ((answerOf r s (length room)) .refusal .number ≡ 0) × (recordOf (roomAfter r s room) ≡ recordOf t)
+  read-builds clean room enough =
+      let built = enough-builds r s (clean-accepted clean) room enough in
+      (built, built-reads room built)
+
 -- ---- a rebuild of an accepted table is a build of its range
 
 module _ (t : List ℕ) (ok : checkOf t ≡ Accepted) where
+  told : Reads t (rangeOf t) t
+  told = reads t ok
+
   content : contentGiven (rangeOf t) t ≡ contentOf t
-  content = content-range t ok (reads t ok)
+  content = content-range t (rangeOf t) t ok told
 
   contents : contentsVerdict (rangeOf t) t ≡ firstOf (gather (zeroTests (startsOf t) t) 0 entryCount)
-  contents = contents-range t ok (reads t ok)
+  contents = contents-range t (rangeOf t) t ok told
 
   pub record-range : recordGiven (rangeOf t) t ≡ recordOf t
-  unfolding recordGiven recordOf
-  record-range = ap listed content
+  record-range = record-read t (rangeOf t) t ok told
 
   -- the content of a table is that of its record
   content-spread : contentOf t ≡ spread (recordOf t)
   content-spread = sym content ∙ sym (given-spread (rangeOf t) t) ∙ ap spread record-range
-
-  clean-accepted : Clean t → contentsVerdict (rangeOf t) t ≡ Accepted
-  unfolding zeroTests
-  clean-accepted clean =
-      contents
-      ∙ gather-accepts (zeroTests (startsOf t) t) entryCount 0 (λ n l h. accept-cons _ _ (clean n (omega arith)) accept-none)
-
-  accepted-clean : contentsVerdict (rangeOf t) t ≡ Accepted → Clean t
-  unfolding zeroTests
-  accepted-clean e n h =
-      passes _ _ (gather-passes (zeroTests (startsOf t) t) entryCount 0 n (sym contents ∙ e) (omega arith) (omega arith)) .0
 
   verdict-range : (n : ℕ) → rebuildVerdict t n ≡ buildVerdict (rangeOf t) t n
   unfolding rebuildVerdict buildVerdict checkOf contentsVerdict
@@ -140,33 +175,14 @@ module _ (t : List ℕ) (ok : checkOf t ≡ Accepted) where
       go Accepted = ap (λ (c : Content). tableOf c ++ drop (lengthBuilt c) room) (sym content)
       go (Refused e) = refl
 
-  -- where the contents are not refused and the room takes the table, it is built
-  enough-builds : contentsVerdict (rangeOf t) t ≡ Accepted → (room : List ℕ) → lengthBuilt (contentGiven (rangeOf t) t) ≤ length room
-      → (answerOf (rangeOf t) t (length room)) .refusal .number ≡ 0
-  unfolding answerOf answerFrom refusalOf
-  enough-builds accepted room enough =
-      ⊎-elim (λ w. accepted-not-refused accepted (w .1 .contents))
-      (⊎-elim (λ w. absurd (omega (arith, w .short))) (λ w. ap (λ (v : Verdict). (answerFrom (rangeOf t) t v) .refusal .number) (w .verdict)))
-      (outcome (rangeOf t) t (length room))
-
-  -- and what the room then holds reads as the record
-  rebuilt-reads : (room : List ℕ) (built : (answerOf (rangeOf t) t (length room)) .refusal .number ≡ 0)
-      → recordOf (roomAfter (rangeOf t) t room) ≡ recordOf t
-  unfolding roomAfter roomFrom recordGiven
-  rebuilt-reads room built =
-      let c : Content = contentGiven (rangeOf t) t in
-      ap (λ (v : Verdict). recordOf (roomFrom (rangeOf t) t room v)) (builds (rangeOf t) t room built .verdict)
-      ∙ serves-append c (good (rangeOf t) t room built) (drop (lengthBuilt c) room) .reads-back
-      ∙ record-range
-
 pub rebuilds-the-same : RebuildsTheSame
 rebuilds-the-same t ok clean =
-    let contents = clean-accepted t ok clean in
+    let contents = clean-accepted t (rangeOf t) t ok (told t ok) clean in
     record {
       reads = record-range t ok;
       builds = contents;
       enough = length-bound (contentGiven (rangeOf t) t) (contents-good (rangeOf t) t contents);
-      rebuilt = λ room enough. let built = enough-builds t ok contents room enough in (built, rebuilt-reads t ok room built);
+      rebuilt = read-builds t (rangeOf t) t ok (told t ok) clean;
     }
 
 -- ---- the call
@@ -207,10 +223,10 @@ module _ (t : List ℕ) (ok : checkOf t ≡ Accepted) (before : List ℕ) (accep
   rebuilt-again : (u : List ℕ) → checkOf u ≡ Accepted → recordOf u ≡ recordOf t → (room : List ℕ) → lengthBuilt (contentOf t) ≤ length room
       → take (lengthBuilt (contentOf t)) (rebuildRoom u room) ≡ tableOf (contentOf t)
   rebuilt-again u passes e room enough =
-      let clean : Clean t = accepted-clean t ok (builds (rangeOf t) t before built .contents) in
-      let contents = clean-accepted u passes (clean-same t u e clean) in
+      let clean : Clean t = accepted-clean t (rangeOf t) t ok (told t ok) (builds (rangeOf t) t before built .contents) in
+      let contents = clean-accepted u (rangeOf u) u passes (told u passes) (clean-same t u e clean) in
       let same : contentGiven (rangeOf u) u ≡ contentOf t = content u passes ∙ content-spread u passes ∙ ap spread e ∙ sym (content-spread t ok) in
-      let again = enough-builds u passes contents room (omega (arith, ap lengthBuilt same)) in
+      let again = enough-builds (rangeOf u) u contents room (omega (arith, ap lengthBuilt same)) in
       let sound : Good (contentOf t) = subst Good (content t ok) (good (rangeOf t) t before built) in
       ap (take (lengthBuilt (contentOf t)))
       (room-range u passes room ∙ room-built (rangeOf u) u room again ∙ ap (λ (c : Content). tableOf c ++ drop (lengthBuilt c) room) same)
@@ -252,7 +268,7 @@ module _ (t before : List ℕ) (ok : checkOf t ≡ Accepted) where
         room-is = refl;
         refused = p .refused;
         accepted = served;
-        room = λ _ clean. subst (λ (c : Record). Room c (length before) (answer .refusal .number)) (record-range t ok) (p .room (clean-accepted t ok clean));
+        room = λ _ clean. subst (λ (c : Record). Room c (length before) (answer .refusal .number)) (record-range t ok) (p .room (clean-accepted t (rangeOf t) t ok (told t ok) clean));
         settles = λ z room enough.
             let w : Serves (recordOf t) (take (answer .length) after) = served z .serves (answer .length) (omega arith) in
             let size : answer .length ≡ lengthBuilt (contentOf t) = size-is t ok before z in

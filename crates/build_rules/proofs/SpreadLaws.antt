@@ -19,7 +19,7 @@ use Rattle.build_rules.specs.RecordRange.{indexGiven, entryGiven, conten
 use Rattle.build_rules.specs.TableBytes.{tableOf}
 use Rattle.octets.proofs.CountingLaws.{getD-tabulate, tabulate-past}
 use Rattle.ibft_table.proofs.LayoutLaws.{owner-past}
-use Rattle.build_rules.proofs.GoodLaws.{given-past}
+use Rattle.build_rules.proofs.RecordRangeLaws.{given-past}
 
 -- a record's content by number
 unfoldable pub spread : Record → Content

@@ -1,17 +1,39 @@
 // Enters a record: reads its text on standard input (docs/RECORD-FORMAT.md) and writes the table's bytes to standard output. A text that cannot be
 // read, or a record that is refused, is answered on standard error, and no table is written.
+use build_rules::range::INDEX_AT;
+use build_rules::range::LARGEST_SIZE;
+use build_rules::range::image_at;
+use build_rules::range::nics_given;
 use ibft_build::build::build;
+use ibft_table::layout::ENTRY_COUNT;
+use ibft_table::layout::EXTRA_MOST;
+use ibft_table::layout::NAMED_COUNT;
+use ibft_table::layout::NAMED_ENTRIES;
+use ibft_table::layout::first_entry;
+use ibft_table::layout::index_of;
+use ibft_table::layout::kind_of;
+use ibft_table::layout::owner_of;
+use ibft_table::nic::Nic;
+use ibft_table::target::Target;
+use octets::read::byte_at;
 use octets::read::part;
 use record_text::enter::Entered;
 use record_text::enter::GIVEN_BEFORE;
 use record_text::enter::NO_ROOM;
 use record_text::enter::NO_SUCH_FIELD;
 use record_text::enter::TOO_LONG;
+use record_text::enter::TOO_MANY;
 use record_text::enter::UNREADABLE;
 use record_text::enter::enter;
+use record_text::fields::FieldName;
+use record_text::fields::INITIATOR_FLAGS;
+use record_text::fields::NIC_FLAGS;
 use record_text::fields::Notation;
+use record_text::fields::TARGET_FLAGS;
 use record_text::fields::field_at;
+use record_text::fields::plain_count;
 use record_text::fields::put_name;
+ghost use Prim.Native.Nat.{_≤_};
 
 const STDIN: i32 = 0;
 
@@ -36,16 +58,18 @@ fn say_range(width: u8) {
     }
 }
 
-// The flags that the group of the field has.
-fn say_flags(field: u8) {
-    say(b"the value is not made of the words: valid selected");
-    match field / 16 {
-        3 => say(b" global"),
-        4 => say(b" radius-chap radius-rchap"),
-        5 => say(b" global"),
-        6 => say(b" radius-chap radius-rchap"),
-        _ => {}
+// The flags that a kind has.
+fn say_flags(kind: u8) {
+    say(b"the value is not made of the words: ");
+    if kind == Nic::ID {
+        say(&NIC_FLAGS);
+        return;
     }
+    if kind == Target::ID {
+        say(&TARGET_FLAGS);
+        return;
+    }
+    say(&INITIATOR_FLAGS);
 }
 
 fn say_no_string() {
@@ -54,14 +78,15 @@ fn say_no_string() {
 }
 
 // Why the value of the field cannot be read.
-fn say_unreadable(field: u8) {
-    let layout = field_at(field);
+fn say_unreadable(field: FieldName) {
+    let layout = field_at(field.kind, field.field);
     let notation = layout.notation;
     match notation {
         Notation::Oem => say_no_string(),
         Notation::Mode => say(b"the value is not one of: multi single"),
-        Notation::Flags => say_flags(field),
+        Notation::Flags => say_flags(field.kind),
         Notation::Number => say_range(layout.width),
+        Notation::Port => say_range(layout.width),
         Notation::Address => say(b"the value is not an IP address"),
         Notation::Mac => say(b"the value is not a MAC address, as 02:00:5e:10:00:07"),
         Notation::Pci => say(b"the value is not a PCI address, as 00:03.1"),
@@ -70,14 +95,22 @@ fn say_unreadable(field: u8) {
     }
 }
 
-fn say_too_long(field: u8) {
-    let layout = field_at(field);
+fn say_too_long(field: FieldName) {
+    let layout = field_at(field.kind, field.field);
     say(b"the string has more than ");
     say_number(layout.width as u64);
     say(b" bytes");
 }
 
-fn say_reason(reason: u8, field: u8) {
+fn say_too_many(kind: u8) {
+    if kind == Nic::ID {
+        say(b"a record has at most six NICs beyond nic0 and nic1");
+        return;
+    }
+    say(b"a record has at most six targets beyond target0 and target1");
+}
+
+fn say_reason(reason: u8, field: FieldName) {
     if reason == NO_SUCH_FIELD {
         say(b"there is no such field");
     }
@@ -91,7 +124,10 @@ fn say_reason(reason: u8, field: u8) {
         say_too_long(field);
     }
     if reason == NO_ROOM {
-        say(b"the strings together have more than 4096 bytes");
+        say(b"the strings together have more than 16384 bytes");
+    }
+    if reason == TOO_MANY {
+        say_too_many(field.kind);
     }
 }
 
@@ -99,90 +135,132 @@ fn say_line(entered: Entered) {
     say(b"enter: line ");
     say_number(entered.line as u64);
     say(b": ");
-    say_reason(entered.reason, entered.field);
+    let field = entered.field;
+    say_reason(entered.reason, field);
     say(b"\n");
 }
 
-// The field that is string n of a record.
-fn string_field(n: u32) -> u8 {
-    match n {
-        0 => 37,
-        1 => 59,
-        2 => 70,
-        3 => 71,
-        4 => 72,
-        5 => 73,
-        6 => 74,
-        7 => 91,
-        8 => 102,
-        9 => 103,
-        10 => 104,
-        11 => 105,
-        _ => 106,
+// The entry that a build calls `place`: the entries of extra targets follow those of the extra NICs that there are, without a gap.
+fn entry_at(range: &[u8], place: u32) -> u16 {
+    let nics = nics_given(range) as u32;
+    if ENTRY_COUNT as u32 <= place {
+        return 0;
+    }
+    if place < NAMED_ENTRIES as u32 + nics {
+        return place as u16;
+    }
+    if EXTRA_MOST as u32 <= nics {
+        return place as u16;
+    }
+    (place + EXTRA_MOST as u32 - nics) as u16
+}
+
+// The Index of slot k's structure.
+fn index_at(range: &[u8], k: u8) -> u8 {
+    if k < NAMED_COUNT {
+        return index_of(k);
+    }
+    byte_at(range, image_at(range, k) as usize + INDEX_AT as usize)
+}
+
+// Which string of its structure an entry is, where the structure's first is entry `first`.
+fn number_in(entry: u16, first: u16) -> u8
+    ensures { λ r. ⌜ r ≤ 4 ⌝ }
+{
+    if entry <= first {
+        return 0;
+    }
+    if first as u32 + 4 < entry as u32 {
+        return 0;
+    }
+    (entry - first) as u8
+}
+
+// The field that is string `place` of a record.
+fn string_field(range: &[u8], place: u32) -> FieldName {
+    let entry = entry_at(range, place);
+    let slot = owner_of(entry);
+    let kind = kind_of(slot).id;
+    FieldName {
+        kind,
+        index: index_at(range, slot),
+        field: plain_count(kind) + number_in(entry, first_entry(slot)),
     }
 }
 
-fn say_name(field: u8) {
+fn say_name(field: FieldName) {
     let mut room = [0u8; 64];
     let end = put_name(&mut room, 0, field);
     say(part(&room, 0, end));
     say(b": ");
 }
 
+// OEM field n.
+fn oem_field(n: u8) -> FieldName {
+    FieldName {
+        kind: 0,
+        index: 0,
+        field: n,
+    }
+}
+
 // The words of a refusal of the build. (The record range that `enter` makes has no reserved flag, no CHAP type above 2, no mark but 0 and 1, its
 // strings in the strings range, and the room holds every table: 10, 19, 21, 24 and 25 are not met here.)
-fn say_words(number: u8, place: u32) {
+fn say_words(range: &[u8], number: u8, place: u32) {
     match number {
         8 => {
-            say_name(if place == 10 { 0 } else { 1 });
+            say_name(oem_field(if place == 10 { 0 } else { 1 }));
             say(b"a zero byte is followed by another byte\n");
         }
         17 => {
-            say_name(string_field(place));
+            say_name(string_field(range, place));
             say(b"a name has at most 223 bytes, any other string 255\n");
         }
         18 => {
-            say_name(string_field(place));
+            say_name(string_field(range, place));
             say(b"this is not a host name\n");
         }
         20 => {
-            say_name(string_field(place));
+            say_name(string_field(range, place));
             say(b"the string has a zero byte\n");
         }
         _ => say(b"docs/REFUSALS.md says what the number means\n"),
     }
 }
 
-fn say_refusal(number: u8, place: u32) {
+fn say_refusal(range: &[u8], number: u8, place: u32) {
     say(b"refused ");
     say_number(number as u64);
     say(b" ");
     say_number(place as u64);
     say(b"\n");
-    say_words(number, place);
+    say_words(range, number, place);
 }
 
-// Builds the record's table and writes it. (No table has more than 3,702 bytes.)
+// Builds the record's table and writes it. (No table has more than 13,710 bytes.)
 fn write_table(range: &[u8], strings: &[u8]) {
-    let mut room = [0u8; 4096];
+    let mut room = [0u8; 13710];
     let built = build(range, strings, &mut room);
     let refusal = built.refusal;
     if refusal.number != 0 {
-        say_refusal(refusal.number, refusal.place);
+        say_refusal(range, refusal.number, refusal.place);
         return;
     }
     io::write_all(STDOUT, part(&room, 0, built.length as usize));
 }
 
 fn enter_text(text: &[u8]) {
-    let mut range = [0u8; 419];
-    let mut strings = [0u8; 4096];
+    let mut range = [0u8; LARGEST_SIZE as usize];
+    let mut strings = [0u8; 16384];
     let entered = enter(text, &mut range, &mut strings);
     if entered.reason != 0 {
         say_line(entered);
         return;
     }
-    write_table(&range, part(&strings, 0, entered.used));
+    write_table(
+        part(&range, 0, entered.size),
+        part(&strings, 0, entered.used),
+    );
 }
 
 // One byte more than a text may have is read, which tells a longer one.

@@ -4,7 +4,7 @@
 --     entries-past              from the limit on entries are missing
 --     field-on, field-past      where the range holds its words, as the code returns it; from the limit on nowhere
 --     fields-at, fields-count   what stands in the list of these
---     start-is, named-length    its start and its length, as the code reads them
+--     start-is, length-is       its start and its length, as the code reads them
 --     wanted-on, wanted-off     what it wants in the heap, as the code returns it
 --     wanted-past               from the limit on nothing
 --     wanted-at, wanted-there   what stands in the list of these
@@ -21,11 +21,11 @@ use borrow.Author.Tests.{lt-ltb, le-ltb}
 use Rattle.octets.proofs.CountingLaws.{length-tabulate, getD-tabulate}
 use Rattle.octets.specs.Octets.{word16, part}
 use Rattle.octets.proofs.ReadLaws.{part-length}
-use Rattle.ibft_table.specs.Layout.{entryCount, namedEntries, ownerOf, stringOf}
+use Rattle.ibft_table.specs.Layout.{entryCount, ownerOf, stringOf}
 use Rattle.ibft_table.specs.Record.{shownIf}
-use Rattle.build_rules.specs.RecordRange.{namedImage, imageAt, entryGiven, lengthGiven, startGiven, bytesGiven, contentGiven}
+use Rattle.build_rules.specs.RecordRange.{imageAt, entryGiven, lengthGiven, startGiven, bytesGiven, contentGiven}
 use Rattle.ibft_build.specs.Planning.{Readable, entryLimit, fieldGiven, entryFields, entriesGiven, wantedGiven, wantedSizes}
-use Rattle.ibft_build.proofs.RecordLaws.{field-named, entry-past, entry-limit-most}
+use Rattle.ibft_build.proofs.RecordLaws.{entry-past, entry-limit-most}
 
 pub limit-most : (r : List ℕ) (limit : ℕ) → limit ≡ entryLimit r → limit ≤ entryCount
 limit-most r limit e = omega (arith, entry-limit-most r)
@@ -57,9 +57,9 @@ module _ (r : List ℕ) (n : ℕ) where
   field-past h = rw (le-ltb n (entryLimit r) h)
 
   -- v is what the code reads at f
-  pub named-length : n < namedEntries → (f v : ℕ) → f ≡ namedImage (ownerOf n) + (stringOf n) .at → v ≡ word16 r f → v ≡ lengthGiven r n
+  pub length-is : (f v : ℕ) → f ≡ imageAt r (ownerOf n) + (stringOf n) .at → v ≡ word16 r f → v ≡ lengthGiven r n
   unfolding lengthGiven
-  named-length h f v at e = e ∙ ap (word16 r) (at ∙ field-named r n h)
+  length-is f v at e = e ∙ ap (word16 r) at
 
 module _ (r fields : List ℕ) (are : fields ≡ entryFields r) where
   pub fields-count : length fields ≡ entryCount

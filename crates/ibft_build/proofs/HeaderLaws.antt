@@ -15,7 +15,7 @@ use Rattle.octets.proofs.ReadLaws.{part-length}
 use Rattle.octets.proofs.WriteLaws.{length-zeros}
 use Rattle.ibft_table.specs.Layout.{namedCount, extraMost, extraNics, extraTargets, mostWords}
 use Rattle.build_rules.specs.RecordRange.{nicsGiven, targetsGiven, structureGiven}
-use Rattle.build_rules.proofs.GoodLaws.{nic-given, target-given}
+use Rattle.build_rules.proofs.RecordRangeLaws.{nic-given, target-given}
 use Rattle.ibft_build.specs.Planning.{Whole, extrasGiven, structureStart}
 use Rattle.ibft_build.specs.Writing.{headerStart, headerWith, controlFront, startWord, extraWordGiven, controlWith}
 use Rattle.ibft_build.proofs.RecordLaws.{extras-are}

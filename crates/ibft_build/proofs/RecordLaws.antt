@@ -1,12 +1,7 @@
--- Laws of the record range, shaped like what its readers return. What is given is known by number for the named slots and by
--- arithmetic for the extras, and behind the last extra nothing is given.
---     image-named, image-nic, image-target           where a slot's image starts
---     given-named, given-nic, given-target           whether its structure is present, given-past: past the last slot none is
---     index-named, index-there, index-none           its Index
---     first-nic, first-target                        the number of a slot's first entry
---     owner-short, string-low                        where an entry's words stand
---     field-named, field-small                       where the range holds its words
---     mark-named, mark-extra                         where an entry's mark stands
+-- Laws of what the record range says of structures and entries, shaped like what its readers return; behind the last extra nothing is
+-- given.
+--     index-named, index-there, index-none           the Index of a slot's structure
+--     string-low, field-small                        where an entry's words stand, in its structure and in the range
 --     entry-marked, entry-off                        an entry whose structure is present, and one whose structure is absent
 --     slot-past, entry-past                          behind the limits nothing is given
 --     slot-limit-most, entry-limit-most              the limits are within the layout
@@ -14,55 +9,26 @@
 --     extras-are, extras-none                        how many extras there are; with none nothing extra is given
 -- Assumes nothing.
 use mathlib.Core.Path.{_≡_, refl, sym, ap, ap₂, _∙_}
-use mathlib.Core.List.{List, [], _∷_}
+use mathlib.Core.List.{List}
 use mathlib.Core.Bool.{Bool, true, false, cond}
-use Prim.Native.Nat.{ℕ, zero, suc, _+_, _*_, _-_, min, _≤_, _<_}
+use Prim.Native.Nat.{ℕ, zero, suc, _+_, _-_, min, _≤_, _<_}
 use native.Mathlib.Decide.{decLt}
 use native.Mathlib.Omega.{arith}
-use lib.ListN.{length, getD}
-use lib.Dec.{eqb, ltb, leb}
-use borrow.Author.Tests.{lt-ltb, le-ltb, lt-leb, le-leb, eq-eqb, ne-eqb}
-use Rattle.octets.specs.Counting.{sumTo, count, tabulate}
+use lib.Dec.{eqb, ltb}
+use borrow.Author.Tests.{lt-ltb, le-ltb, eq-eqb, ne-eqb}
+use Rattle.octets.specs.Counting.{sumTo, count}
 use Rattle.octets.specs.Octets.{byte}
-use Rattle.octets.proofs.CountingLaws.{tabulate-equal}
 use Rattle.octets.proofs.CountLaws.{count-last, count-none, count-same}
-use Rattle.ibft_table.specs.Layout.{kindOf, indexOf, slotCount, namedCount, extraMost, extraNics, extraTargets, entryCount, namedEntries, ownerOf, stringOf, firstEntry}
-use Rattle.ibft_table.proofs.LayoutLaws.{owner-named, owner-past}
-use Rattle.ibft_laws.proofs.LayoutLaws.{slot-fits, entry-fits, entry-inside}
-use Rattle.build_rules.specs.RecordRange.{nicsGiven, targetsGiven, nicImage, targetImage, namedImage, imageAt, markAt, structureGiven, indexGiven, entryGiven}
+use Rattle.ibft_table.specs.Layout.{indexOf, slotCount, namedCount, extraMost, extraNics, extraTargets, entryCount, namedEntries, ownerOf, stringOf, firstEntry}
+use Rattle.ibft_table.proofs.LayoutLaws.{owner-past, first-nic, first-most}
+use Rattle.ibft_laws.proofs.LayoutLaws.{entry-fits, entry-inside}
+use Rattle.build_rules.specs.RecordRange.{nicsGiven, targetsGiven, nicImage, targetImage, imageAt, markAt, structureGiven, indexGiven, entryGiven}
+use Rattle.build_rules.proofs.RecordRangeLaws.{image-nic, image-target, given-nic, given-target, given-past, owner-short}
 use Rattle.ibft_build.specs.Planning.{slotLimit, entryLimit, extrasGiven}
 
--- ---- images and presence, slot by slot
+-- ---- the Index of a slot's structure
 
 module _ (r : List ℕ) (k : ℕ) where
-  pub image-named : k < namedCount → namedImage k ≡ imageAt r k
-  unfolding imageAt
-  image-named h = rw (lt-ltb k namedCount h)
-
-  pub image-nic : namedCount ≤ k → k < extraTargets → nicImage (k - extraNics) ≡ imageAt r k
-  unfolding imageAt
-  image-nic low high = rw (le-ltb k namedCount low, lt-ltb k extraTargets high)
-
-  pub image-target : extraTargets ≤ k → targetImage r (k - extraTargets) ≡ imageAt r k
-  unfolding imageAt
-  image-target low = rw (le-ltb k namedCount (omega arith), le-ltb k extraTargets low)
-
-  pub given-named : k < namedCount → eqb (byte r (15 + k)) 1 ≡ structureGiven r k
-  unfolding structureGiven
-  given-named h = rw (lt-ltb k namedCount h)
-
-  pub given-nic : namedCount ≤ k → k < extraTargets → ltb (k - extraNics) (nicsGiven r) ≡ structureGiven r k
-  unfolding structureGiven
-  given-nic low high = rw (le-ltb k namedCount low, lt-ltb k extraTargets high)
-
-  pub given-target : extraTargets ≤ k → k < slotCount → ltb (k - extraTargets) (targetsGiven r) ≡ structureGiven r k
-  unfolding structureGiven
-  given-target low high = rw (le-ltb k namedCount (omega arith), le-ltb k extraTargets low, lt-ltb k slotCount high)
-
-  pub given-past : slotCount ≤ k → false ≡ structureGiven r k
-  unfolding structureGiven
-  given-past h = rw (le-ltb k namedCount (omega arith), le-ltb k extraTargets (omega arith), le-ltb k slotCount h)
-
   pub index-named : k < namedCount → indexOf k ≡ indexGiven r k
   unfolding indexGiven
   index-named h = rw (lt-ltb k namedCount h)
@@ -77,33 +43,9 @@ module _ (r : List ℕ) (k : ℕ) where
 
 -- ---- entries
 
--- a slot's first entry, by number and by arithmetic
-abbrev pub firstBy : ℕ → ℕ
-firstBy k = cond (leb extraTargets k) (19 + 5 * (k - extraTargets)) (cond (leb extraNics k) (13 + (k - extraNics)) (getD (0 ∷ 1 ∷ 2 ∷ 7 ∷ 8 ∷ []) k 0))
-
-firsts-are : tabulate firstEntry 0 18 ≡ tabulate firstBy 0 18
-unfolding tabulate firstEntry sumTo kindOf
-firsts-are = refl
-
-pub first-by : (k : ℕ) → k ≤ slotCount → firstEntry k ≡ firstBy k
-first-by k h = tabulate-equal firstEntry firstBy 18 firsts-are k (omega arith)
-
-pub first-target : (k : ℕ) → extraTargets ≤ k → k ≤ slotCount → 19 + 5 * (k - extraTargets) ≡ firstEntry k
-first-target k low high = sym (first-by k high ∙ rw (le-leb extraTargets k low))
-
-pub first-nic : (k : ℕ) → extraNics ≤ k → k < extraTargets → 13 + (k - extraNics) ≡ firstEntry k
-first-nic k low high = sym (first-by k (omega arith) ∙ rw (lt-leb extraTargets k high, le-leb extraNics k low))
-
--- an entry's owner is no longer than a NIC; the entry's words stand in it
-pub owner-short : (n : ℕ) → n < entryCount → (kindOf (ownerOf n)) .length ≤ 102
-owner-short n h = slot-fits (ownerOf n) (entry-fits n h .owner) .short
-
+-- the entry's words stand in its structure
 pub string-low : (n : ℕ) → n < entryCount → (stringOf n) .at ≤ 98
-string-low n h = omega (arith, entry-inside n h, owner-short n h)
-
--- so the words of these have fixed places
-pub field-named : (r : List ℕ) (n : ℕ) → n < namedEntries → namedImage (ownerOf n) + (stringOf n) .at ≡ imageAt r (ownerOf n) + (stringOf n) .at
-field-named r n h = ap (λ (a : ℕ). a + (stringOf n) .at) (image-named r (ownerOf n) (owner-named n h))
+string-low n h = omega (arith, entry-inside n h, owner-short n)
 
 first-mono : (j d : ℕ) → firstEntry j ≤ firstEntry (j + d)
 unfolding firstEntry sumTo
@@ -128,7 +70,7 @@ unfolding nicImage targetImage
 field-small r n few low h =
     let k : ℕ = ownerOf n in
     let owner = entry-fits n h .owner in
-    let extra : namedCount ≤ k = owner-from namedCount n h (omega (arith, first-by namedCount (omega arith))) in
+    let extra : namedCount ≤ k = owner-from namedCount n h (omega (arith, first-nic namedCount (omega arith) (omega arith))) in
     let at = string-low n h in
     elim (decLt k extraTargets) [
       | yes l ↦ omega (arith, image-nic r k extra l)
@@ -136,14 +78,6 @@ field-small r n few low h =
     ]
 
 module _ (r : List ℕ) (n : ℕ) where
-  pub mark-named : n < namedEntries → 20 + n ≡ markAt r n
-  unfolding markAt
-  mark-named h = rw (lt-ltb n namedEntries h)
-
-  pub mark-extra : namedEntries ≤ n → imageAt r (ownerOf n) + (kindOf (ownerOf n)) .length + (n - firstEntry (ownerOf n)) ≡ markAt r n
-  unfolding markAt
-  mark-extra h = rw (le-ltb n namedEntries h)
-
   -- k is the slot that the entry's shape names
   module _ (k : ℕ) (owner : k ≡ ownerOf n) where
     pub entry-marked : structureGiven r k ≡ true → (b m : ℕ) → m ≡ markAt r n → b ≡ byte r m → eqb b 1 ≡ entryGiven r n
@@ -184,7 +118,7 @@ module _ (r : List ℕ) where
   pub slot-past : (k : ℕ) → slotLimit r ≤ k → structureGiven r k ≡ false
   slot-past k h =
       elim (decLt k slotCount) [
-        | no l ↦ sym (given-past r k (omega arith))
+        | no l ↦ given-past r k (omega arith)
         | yes l ↦
             elim (decLt k extraTargets) [
               | yes nic ↦
@@ -206,16 +140,13 @@ module _ (r : List ℕ) where
 
   pub entry-limit-most : entryLimit r ≤ entryCount
   unfolding entryLimit
-  entry-limit-most =
-      let d = slotCount - slotLimit r in
-      let all : slotLimit r + (slotCount - slotLimit r) ≡ slotCount = omega (arith, slot-limit-most) in
-      omega (arith, rw all at (first-mono (slotLimit r) (slotCount - slotLimit r)), first-by slotCount (omega arith))
+  entry-limit-most = first-most (slotLimit r) slot-limit-most
 
   pub entry-limit-least : namedEntries ≤ entryLimit r
   unfolding entryLimit
   entry-limit-least =
       let all : namedCount + (slotLimit r - namedCount) ≡ slotLimit r = omega (arith, named-limit) in
-      omega (arith, rw all at (first-mono namedCount (slotLimit r - namedCount)), first-by namedCount (omega arith))
+      omega (arith, rw all at (first-mono namedCount (slotLimit r - namedCount)), first-nic namedCount (omega arith) (omega arith))
 
   pub entry-past : (n : ℕ) → entryLimit r ≤ n → entryGiven r n ≡ false
   unfolding entryLimit

@@ -1,10 +1,10 @@
 // What a build refuses of the extras: a seventh of a kind (34), an Index below 2 (13), one that is not above its forerunner's (33);
 // first the extra NICs, then the extra targets, each by its slot.
-use crate::record::INDEX_AT;
-use crate::record::nic_image;
-use crate::record::nics_given;
-use crate::record::target_image;
-use crate::record::targets_given;
+use build_rules::range::INDEX_AT;
+use build_rules::range::nic_image;
+use build_rules::range::nics_given;
+use build_rules::range::target_image;
+use build_rules::range::targets_given;
 use ibft_table::layout::EXTRA_MOST;
 use ibft_table::layout::EXTRA_NICS;
 use ibft_table::layout::LEAST_INDEX;

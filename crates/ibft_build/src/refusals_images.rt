@@ -1,10 +1,10 @@
 // What a build refuses of flags and CHAP types: Control's reserved flags (10), then reserved flags (10) and the CHAP type (19) of the
 // images, slot by slot.
-use crate::record::FLAGS_AT as CONTROL_FLAGS_AT;
-use crate::record::image_at;
 use crate::record::slot_limit;
 use crate::record::slot_number;
-use crate::record::structure_given;
+use build_rules::range::FLAGS_AT as CONTROL_FLAGS_AT;
+use build_rules::range::image_at;
+use build_rules::range::structure_given;
 use ibft_table::control::Control;
 use ibft_table::layout::CHAP_AT;
 use ibft_table::layout::CHAP_LAST;

@@ -1,14 +1,17 @@
 // What a build refuses of the range itself (25) and of the OEM fields (8).
-use crate::record::BASE_SIZE;
-use crate::record::MARKS_AT;
-use crate::record::OEM_AT;
-use crate::record::nic_image;
-use crate::record::nics_given;
-use crate::record::target_image;
-use crate::record::targets_given;
+use build_rules::range::BASE_SIZE;
+use build_rules::range::MARKS_AT;
+use build_rules::range::OEM_AT;
+use build_rules::range::nic_image;
+use build_rules::range::nics_given;
+use build_rules::range::range_size;
+use build_rules::range::target_image;
+use build_rules::range::targets_given;
 use ibft_table::check_header::is_padded;
 use ibft_table::layout::NAMED_COUNT;
 use ibft_table::layout::NAMED_ENTRIES;
+use ibft_table::layout::OEM_ID_AT;
+use ibft_table::layout::OEM_TABLE_ID_AT;
 use ibft_table::nic::Nic;
 use ibft_table::target::Target;
 use ibft_table::verdict::Verdict;
@@ -37,9 +40,9 @@ const TARGET_MARKS: u8 = 5;
 // The OEM Table ID follows the OEMID.
 const OEM_ID_SIZE: usize = 6;
 
-const OEM_TABLE_ID_AT: usize = OEM_AT as usize + OEM_ID_SIZE;
+const TABLE_ID_AT: usize = OEM_AT as usize + OEM_ID_SIZE;
 
-const OEM_TABLE_ID_SIZE: usize = 8;
+const TABLE_ID_SIZE: usize = 8;
 
 // Does the range neither end behind the named slots nor have the size that its numbers of extras ask for?
 fn has_wrong_size(range: &[u8]) -> bool
@@ -48,7 +51,7 @@ fn has_wrong_size(range: &[u8]) -> bool
     if range.len() == BASE_SIZE as usize {
         return false;
     }
-    range.len() != target_image(range, targets_given(range)) as usize
+    range.len() != range_size(range) as usize
 }
 
 // Is one of the `count` presence marks from `at` on neither 0 nor 1? All of them count, also an entry's whose structure is absent.
@@ -117,10 +120,10 @@ pub(crate) fn range_verdict(range: &[u8]) -> Verdict
         return refuse(25, 0);
     }
     if !is_padded(part(range, OEM_AT as usize, OEM_ID_SIZE)) {
-        return refuse(8, 10);
+        return refuse(8, OEM_ID_AT);
     }
-    if !is_padded(part(range, OEM_TABLE_ID_AT, OEM_TABLE_ID_SIZE)) {
-        return refuse(8, 16);
+    if !is_padded(part(range, TABLE_ID_AT, TABLE_ID_SIZE)) {
+        return refuse(8, OEM_TABLE_ID_AT);
     }
     Verdict::Accepted
 }

@@ -1,6 +1,6 @@
 // Where structures stand: in the build's order, each at the next multiple of 8 behind the one before, the first behind Control.
 use crate::record::extras_given;
-use crate::record::structure_given;
+use build_rules::range::structure_given;
 use ibft_table::control::Control;
 use ibft_table::layout::EXTRA_MOST;
 use ibft_table::layout::SLOT_COUNT;

@@ -31,7 +31,7 @@ pub(crate) fn entry_fields(range: &[u8], limit: u8) -> [u16; ENTRY_COUNT as usiz
     let mut fields = [0u16; ENTRY_COUNT as usize];
     let mut n: u8 = 0;
     while n < NAMED_ENTRIES {
-        fields[n as usize] = named_field(n);
+        fields[n as usize] = named_field(range, n);
         n += 1;
     }
     while n < limit {
@@ -55,7 +55,7 @@ fn named_size(range: &[u8], n: u8) -> u16
     ensures { λ r. ⌜ r ≡ wantedGiven (now (range .entry)) n ⌝ }
 {
     if named_given(range, n) {
-        return u16_at(range, named_field(n) as usize) + 1;
+        return u16_at(range, named_field(range, n) as usize) + 1;
     }
     0
 }

@@ -1,8 +1,8 @@
 // Writers of the header and of Control, each lent its own stretch of the room.
-use crate::record::FLAGS_AT;
 use crate::record::extra_nics;
 use crate::record::extra_targets;
 use crate::starts::structure_start;
+use build_rules::range::FLAGS_AT;
 use ibft_table::control::Control;
 use ibft_table::header::Header;
 use ibft_table::layout::EXTRA_NICS;

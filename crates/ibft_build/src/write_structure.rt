@@ -1,16 +1,16 @@
 // Writers of the structures. A structure's flags and fields are copied from its image; what it starts with and its string words
 // are set.
 use crate::record::extras_given;
-use crate::record::first_entry;
-use crate::record::image_at;
 use crate::record::index_given;
-use crate::record::structure_given;
 use crate::starts::EXTRA_NIC_TURN;
 use crate::starts::EXTRA_TARGET_TURN;
 use crate::starts::TARGET_TURN;
 use crate::starts::aligned;
 use crate::starts::built_slot;
+use build_rules::range::image_at;
+use build_rules::range::structure_given;
 use ibft_table::layout::SLOT_COUNT;
+use ibft_table::layout::first_entry;
 use ibft_table::layout::kind_of;
 use ibft_table::layout::string_of;
 use octets::read::part;
@@ -35,7 +35,7 @@ fn strings_at(k: u8) -> u16
     requires { ⌜ k < slotCount ⌝ }
     ensures { λ r. ⌜ r ≡ (kindOf k) .stringsAt ⌝ }
 {
-    string_of(first_entry(k) as u16).at
+    string_of(first_entry(k)).at
 }
 
 // What slot k's structure starts with, up to its flags.
@@ -67,8 +67,8 @@ fn put_words(structure: &mut [u8], at: usize, wanted: &[u16], offsets: &[u16], k
     requires { ⌜ (at ≤ 500) × (length (now wanted) ≡ entryCount) × (length (now offsets) ≡ entryCount) × (k < slotCount) ⌝ }
     ensures { λ _. ⌜ now (structure .exit) ≡ write (now (structure .entry)) at (gather (wordsWith (now (wanted .entry)) (now (offsets .entry))) (firstEntry k) (length ((kindOf k) .stringFields))) ⌝ }
 {
-    let first = first_entry(k);
-    let end = first_entry(k + 1);
+    let first = first_entry(k) as u8;
+    let end = first_entry(k + 1) as u8;
     let mut n = first;
     while n < end {
         put_entry_words(structure, at + 4 * (n - first) as usize, wanted, offsets, n);

@@ -13,6 +13,7 @@ use Rattle.ibft_table.specs.Check.{checkOf}
 use Rattle.ibft_table.specs.declared.verdict.Verdict.the-variants.{Accepted}
 use Rattle.ibft_laws.proofs.TableLaws.{facts}
 use Rattle.ibft_laws.proofs.NumberingLaws.{nics-most, targets-most}
+use Rattle.build_rules.specs.RecordRange.{largestSize}
 use Rattle.build_rules.specs.Build.{answerOf, roomAfter}
 use Rattle.build_rules.specs.Promises.{Promise}
 use Rattle.build_rules.specs.Rebuild.{targetsIn, rangeIn, rangeOf, rebuildAnswer, rebuildRoom}
@@ -23,13 +24,13 @@ use Rattle.ibft_rebuild.specs.Writing.{Wrote}
 use Rattle.ibft_rebuild.proofs.RangeWriteLaws.{range-lent}
 
 module _ (t : List ℕ) (ok : checkOf t ≡ Accepted) where
-  pub range-most : (starts : List ℕ) → starts ≡ startsOf t → length (rangeIn starts t) ≤ 1393
+  pub range-most : (starts : List ℕ) → starts ≡ startsOf t → length (rangeIn starts t) ≤ largestSize
   unfolding rangeOf targetsIn
   range-most starts are =
       omega (arith, ap (λ (s : List ℕ). length (rangeIn s t)) are, range-length t ok, nics-most t (facts t ok), targets-most t (facts t ok))
 
-  -- u is the stretch of 1,393 bytes in which the range was written up to `end`
-  pub rebuilt : (starts stretch u before after : List ℕ) (end : ℕ) (answer : Built) → starts ≡ startsOf t → length stretch ≡ 1393
+  -- u is the stretch in which the range was written up to `end`
+  pub rebuilt : (starts stretch u before after : List ℕ) (end : ℕ) (answer : Built) → starts ≡ startsOf t → length stretch ≡ largestSize
       → Wrote stretch 0 (rangeIn starts t) u end → Promise (take end u) t before answer after
       → (answer ≡ rebuildAnswer t (length before)) × (after ≡ rebuildRoom t before)
   unfolding rangeOf

@@ -5,8 +5,10 @@ use ibft_table::control::Control;
 use ibft_table::layout::EXTRA_MOST;
 use ibft_table::layout::EXTRA_NICS;
 use ibft_table::layout::EXTRA_TARGETS;
+use ibft_table::layout::FLAGS_AT;
 use ibft_table::layout::NAMED_COUNT;
 use ibft_table::layout::NAMED_ENTRIES;
+use ibft_table::layout::OEM_ID_AT;
 use ibft_table::layout::kind_of;
 use ibft_table::starts::extras_in;
 use ibft_table::starts::holds_entry;
@@ -25,15 +27,12 @@ ghost use Rattle.ibft_table.specs.Table.{presentIn};
 ghost use Rattle.build_rules.specs.Rebuild.{mark, marksIn, imageIn, extraIn, rangeIn};
 ghost use Rattle.ibft_rebuild.specs.Writing.{Wrote, front};
 
-// The size of the largest range: six extra NICs and six extra targets.
-pub(crate) const RANGE_MOST: usize = 1393;
-
 // Where the OEM fields stand in a table, and how long they are together; where Control's flags stand.
-const OEM_AT: usize = 10;
+const OEM_AT: usize = OEM_ID_AT as usize;
 
 const OEM_SIZE: usize = 14;
 
-const CONTROL_FLAGS_AT: usize = Control::AT as usize + 5;
+const CONTROL_FLAGS_AT: usize = Control::AT as usize + FLAGS_AT as usize;
 
 // How many strings an extra has.
 const NIC_STRINGS: u8 = 1;

@@ -1,8 +1,8 @@
 // The rebuild. The check comes first; what it accepts, a build of the table's record range refuses for nothing but a zero byte in a
 // string (20) or want of room (21).
-use crate::range::RANGE_MOST;
 use crate::range::put_range;
 use build_rules::Built;
+use build_rules::range::LARGEST_SIZE;
 use ibft_build::build::build;
 use ibft_table::check::check;
 use ibft_table::seats::starts_of;
@@ -19,7 +19,7 @@ fn rebuild_accepted(table: &[u8], room: &mut [u8]) -> Built
     requires { ⌜ checkOf (now table) ≡ Accepted ⌝ }
     ensures { λ r. ⌜ (r ≡ rebuildAnswer (now (table .entry)) (length (now (room .entry)))) × (now (room .exit) ≡ rebuildRoom (now (table .entry)) (now (room .entry))) ⌝ }
 {
-    let mut range = [0u8; RANGE_MOST];
+    let mut range = [0u8; LARGEST_SIZE as usize];
     let starts = starts_of(table);
     let size = put_range(&mut range, table, &starts);
     build(&range[..size], table, room)

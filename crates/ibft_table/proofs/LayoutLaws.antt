@@ -1,23 +1,30 @@
 -- Laws of the layout's data, for code that knows them number by number or by arithmetic.
 --     last-arm                          the last arm of a `match`, that of number 0 and of what is past the last number
 --     kind-past, index-past             past the last slot stands slot 0
+--     kind-nic, kind-target, kind-other the kind of a slot, by its ID
+--     field-row, field-past             the fields of a kind, by number
 --     nic-past, target-past             past the last NIC and target stands no slot
 --     owner-extra, string-extra         the entries of extras, by arithmetic
 --     owner-past, string-past           past the last entry stands one of no slot
 --     owner-named, owner-later          the entries of the named slots, and those behind them
 --     entries-nic, entries-target       the entries from a slot's first on
+--     first-nic, first-target           a slot's first entry, by arithmetic; first-past: past the last slot one entry for each
+--     first-most                        the first entries of slots are within the layout
 -- Assumes nothing.
-use mathlib.Core.Path.{_≡_, refl, sym, ap}
+use mathlib.Core.Path.{_≡_, refl, sym, ap, _∙_}
+use mathlib.Core.List.{[], _∷_}
 use mathlib.Core.Bool.{Bool, true, false, cond}
 use Prim.Native.Nat.{ℕ, zero, suc, _+_, _*_, _-_, _/_, _%_, _≤_, _<_}
-use native.Mathlib.Decide.{decLe}
+use native.Mathlib.Decide.{decLe, decLt}
 use native.Mathlib.Omega.{arith}
-use borrow.Author.Tests.{le-ltb, ltb-true}
-use lib.ListN.{getD, List·getD-eq-default}
-use lib.Dec.{ltb}
-use Rattle.octets.specs.Counting.{tabulate}
+use borrow.Author.Tests.{le-ltb, ltb-true, lt-leb, le-leb, leb-true, ne-eqb}
+use lib.ListN.{length, getD, List·getD-eq-default}
+use lib.Dec.{eqb, ltb, leb}
+use Rattle.octets.specs.Counting.{sumTo, tabulate}
 use Rattle.octets.proofs.CountingLaws.{tabulate-equal}
-use Rattle.ibft_table.specs.Layout.{StringField, EntryLayout, string, target, kinds, initiator, kindOf, indices, indexOf, slotCount, namedCount, extraNics, extraTargets, nicSlots, nicSlot, targetSlots, targetSlot, entryCount, namedEntries, entriesOf, entriesFrom, entryLayout, ownerOf, stringOf}
+use Rattle.ibft_table.specs.Layout.{StringField, Kind, EntryLayout, string, nic, target, kinds, initiator, kindOf, fieldsOf, kindField, firstEntry, indices, indexOf, slotCount, namedCount, extraNics, extraTargets, nicSlots, nicSlot, targetSlots, targetSlot, entryCount, namedEntries, entriesOf, entriesFrom, entryLayout, ownerOf, stringOf}
+use Rattle.ibft_table.specs.Shapes.{fieldShape}
+use Rattle.ibft_table.specs.declared.layout.FieldShape.{FieldShape}
 
 -- n is none of 1 to k, as the last arm has it
 abbrev NoneOf : ℕ → ℕ → Type 0
@@ -46,6 +53,42 @@ kind-past k h = List·getD-eq-default kinds initiator h
 pub index-past : (k : ℕ) → 5 ≤ k → indexOf k ≡ indexOf 0
 unfolding indexOf
 index-past k h = List·getD-eq-default indices 0 h
+
+-- a slot has one of three kinds, and these have IDs of their own
+kindBy : ℕ → Kind
+kindBy id = cond (eqb id 3) nic (cond (eqb id 4) target initiator)
+
+kinds-are : tabulate kindOf 0 slotCount ≡ tabulate (λ (k : ℕ). kindBy ((kindOf k) .id)) 0 slotCount
+unfolding tabulate kindOf kindBy
+kinds-are = refl
+
+kind-by : (k : ℕ) → kindOf k ≡ kindBy ((kindOf k) .id)
+unfolding kindOf kindBy
+kind-by k =
+    elim (decLt k slotCount) [
+      | yes l ↦ tabulate-equal kindOf (λ (k : ℕ). kindBy ((kindOf k) .id)) slotCount kinds-are k l
+      | no l ↦ rw (kind-past k (omega arith))
+    ]
+
+pub kind-nic : (k : ℕ) → (kindOf k) .id ≡ 3 → nic ≡ kindOf k
+unfolding kindBy
+kind-nic k e = sym (kind-by k ∙ ap kindBy e)
+
+pub kind-target : (k : ℕ) → (kindOf k) .id ≡ 4 → target ≡ kindOf k
+unfolding kindBy
+kind-target k e = sym (kind-by k ∙ ap kindBy e)
+
+pub kind-other : (k : ℕ) → ((kindOf k) .id ≡ 3 → ⊥) → ((kindOf k) .id ≡ 4 → ⊥) → initiator ≡ kindOf k
+unfolding kindBy
+kind-other k a b = sym (kind-by k ∙ rw (ne-eqb ((kindOf k) .id) 3 a, ne-eqb ((kindOf k) .id) 4 b))
+
+-- field m of a kind, where n is m
+pub field-row : (kind : Kind) (m n : ℕ) (r : FieldShape) → r ≡ fieldShape (kindField kind m) → n ≡ m → r ≡ fieldShape (kindField kind n)
+field-row kind m n r e same = e ∙ ap (λ (i : ℕ). fieldShape (kindField kind i)) (sym same)
+
+pub field-past : (kind : Kind) (n : ℕ) → length (fieldsOf kind) ≤ n → fieldShape (kindField kind n) ≡ fieldShape (kindField kind 0)
+unfolding kindField
+field-past kind n h = ap fieldShape (List·getD-eq-default (fieldsOf kind) _ h)
 
 pub nic-past : (n : ℕ) → 8 ≤ n → nicSlot n ≡ slotCount
 unfolding nicSlot
@@ -134,3 +177,43 @@ module _ (k n : ℕ) where
       go : (b : Bool) → ltb n 19 ≡ b → k ≤ cond b (n - 13 + 5) ((n - 19) / 5 + 11)
       go true e = absurd (omega (arith, ltb-true n 19 e))
       go false e = omega arith
+
+-- ---- a slot's first entry
+
+-- by number, and by arithmetic for the extras
+abbrev firstBy : ℕ → ℕ
+firstBy k = cond (leb extraTargets k) (19 + 5 * (k - extraTargets)) (cond (leb extraNics k) (13 + (k - extraNics)) (getD (0 ∷ 1 ∷ 2 ∷ 7 ∷ 8 ∷ []) k 0))
+
+firsts-are : tabulate firstEntry 0 18 ≡ tabulate firstBy 0 18
+unfolding tabulate firstEntry sumTo kindOf
+firsts-are = refl
+
+first-by : (k : ℕ) → k ≤ slotCount → firstEntry k ≡ firstBy k
+first-by k h = tabulate-equal firstEntry firstBy 18 firsts-are k (omega arith)
+
+pub first-target : (k : ℕ) → extraTargets ≤ k → k ≤ slotCount → 19 + 5 * (k - extraTargets) ≡ firstEntry k
+first-target k low high = sym (first-by k high ∙ rw (le-leb extraTargets k low))
+
+pub first-nic : (k : ℕ) → extraNics ≤ k → k < extraTargets → 13 + (k - extraNics) ≡ firstEntry k
+first-nic k low high = sym (first-by k (omega arith) ∙ rw (lt-leb extraTargets k high, le-leb extraNics k low))
+
+first-low : tabulate (λ (k : ℕ). leb (firstEntry k) entryCount) 0 18 ≡ tabulate (λ (k : ℕ). true) 0 18
+unfolding tabulate firstEntry sumTo kindOf
+first-low = refl
+
+pub first-most : (k : ℕ) → k ≤ slotCount → firstEntry k ≤ entryCount
+first-most k h = leb-true (firstEntry k) entryCount (tabulate-equal (λ (k : ℕ). leb (firstEntry k) entryCount) (λ (k : ℕ). true) 18 first-low k (omega arith))
+
+-- past the last slot stands slot 0, with one string
+past-by : (d : ℕ) → firstEntry (slotCount + d) ≡ entryCount + d
+unfolding firstEntry sumTo kindOf
+past-by zero = refl
+past-by (suc d) =
+    let more : slotCount + suc d ≡ suc (slotCount + d) = omega arith in
+    let one : length ((kindOf (slotCount + d)) .stringFields) ≡ 1 = ap (λ (kind : Kind). length (kind .stringFields)) (kind-past (slotCount + d) (omega arith)) in
+    rw more (omega (arith, past-by d))
+
+pub first-past : (k : ℕ) → slotCount ≤ k → entryCount + (k - slotCount) ≡ firstEntry k
+first-past k h =
+    let same : slotCount + (k - slotCount) ≡ k = omega arith in
+    sym (past-by (k - slotCount)) ∙ ap firstEntry same

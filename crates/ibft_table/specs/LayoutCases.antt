@@ -6,7 +6,7 @@ use Prim.Native.Nat.{ℕ, zero, suc, _+_, _/_, _%_}
 use lib.ListN.{length}
 use Rattle.octets.specs.Counting.{tabulate}
 use Rattle.octets.specs.Octets.{le16, le32}
-use Rattle.ibft_table.specs.Layout.{Field, StringField, Kind, control, initiator, nic, target, kinds, slotCount, entryCount, namedCount, namedEntries, extraNics, extraTargets, extraMost, nicSlot, targetSlot, builtSlot, controlAt, controlEnd, mostWords, wordAt, kindOf, slotAt, slotNumber, entryAt, entryNumber, ownerOf, stringOf, firstEntry, entriesFrom}
+use Rattle.ibft_table.specs.Layout.{Field, StringField, Kind, control, initiator, nic, target, flagsAt, fieldsOf, kinds, slotCount, entryCount, namedCount, namedEntries, extraNics, extraTargets, extraMost, nicSlot, targetSlot, builtSlot, controlAt, controlEnd, mostWords, wordAt, kindOf, slotAt, slotNumber, entryAt, entryNumber, ownerOf, stringOf, firstEntry, entriesFrom}
 use Rattle.ibft_table.specs.Readings.{initiatorIn, nicIn, targetIn, pciOf}
 use Rattle.ibft_table.specs.Computing.{computing}
 use Rattle.ibft_table.specs.declared.text.Text.{Text}
@@ -56,6 +56,23 @@ strings-nic = refl
 strings-target : worded (target .stringFields) ≡ from (target .stringsAt) 20
 unfolding worded from
 strings-target = refl
+
+-- so the fields of a kind tile its structure behind the Index: the first stands at 5, each starts where the one before it ends, and the last
+-- ends where the structure does
+startsIn : List Field → List ℕ
+startsIn [] = []
+startsIn (f ∷ fs) = f .at ∷ startsIn fs
+
+endsIn : List Field → List ℕ
+endsIn [] = []
+endsIn (f ∷ fs) = (f .at + f .width) ∷ endsIn fs
+
+abbrev Tiles : Kind → Type 0
+Tiles kind = startsIn (fieldsOf kind) ++ (kind .length ∷ []) ≡ flagsAt ∷ endsIn (fieldsOf kind)
+
+tiles : Tiles initiator × Tiles nic × Tiles target
+unfolding startsIn endsIn
+tiles = (refl, refl, refl)
 
 -- the entries by number: slot, place of the length, longest
 entry-slots : tabulate ownerOf 0 namedEntries ≡ 0 ∷ 1 ∷ 2 ∷ 2 ∷ 2 ∷ 2 ∷ 2 ∷ 3 ∷ 4 ∷ 4 ∷ 4 ∷ 4 ∷ 4 ∷ []

@@ -8,8 +8,8 @@ ghost use mathlib.Core.Path.{_≡_};
 ghost use mathlib.Core.Bool.{false};
 ghost use Prim.Native.Nat.{_<_};
 ghost use lib.ListN.{getD};
-ghost use Rattle.ibft_table.specs.Layout.{namedEntries, kindOf, indexOf, target, ownerOf, stringOf, string, mayShare};
-ghost use Rattle.ibft_table.specs.Shapes.{shapeOf, shapeStart, stringShape};
+ghost use Rattle.ibft_table.specs.Layout.{namedEntries, kindOf, kindField, indexOf, target, ownerOf, stringOf, string, mayShare, firstEntry};
+ghost use Rattle.ibft_table.specs.Shapes.{shapeOf, shapeStart, fieldShape, stringShape};
 ghost use Rattle.ibft_table.specs.Table.{lengthOf};
 
 // Where the header's fields stand.
@@ -19,9 +19,9 @@ pub(crate) const REVISION_AT: u32 = 8;
 
 pub(crate) const CHECKSUM_AT: u32 = 9;
 
-pub(crate) const OEM_ID_AT: u32 = 10;
+pub const OEM_ID_AT: u32 = 10;
 
-pub(crate) const OEM_TABLE_ID_AT: u32 = 16;
+pub const OEM_TABLE_ID_AT: u32 = 16;
 
 // The Length field.
 pub(crate) fn length_of(t: &[u8]) -> u32
@@ -109,6 +109,18 @@ pub fn index_of(k: u8) -> u8
 
 pub const LEAST_INDEX: u8 = 2;
 
+// A field of a structure: where it stands, how many bytes it has.
+pub struct FieldShape {
+    pub at: u16,
+    pub width: u8,
+}
+
+// The flags, which every structure has.
+pub(crate) const FLAGS: FieldShape = FieldShape {
+    at: FLAGS_AT as u16,
+    width: 1,
+};
+
 // A string of a structure: where its length stands (its offset stands 2 further), how long it may be, whether it is a
 // host name, whether it is a secret.
 pub struct StringShape {
@@ -116,6 +128,30 @@ pub struct StringShape {
     pub longest: u16,
     pub host: bool,
     pub secret: bool,
+}
+
+// The two words of a string, its length and its offset, as one field.
+pub(crate) fn words_of(string: StringShape) -> FieldShape
+    ensures { λ r. ⌜ r ≡ record { at = string .at; width = 4 } ⌝ }
+{
+    FieldShape {
+        at: string.at,
+        width: 4,
+    }
+}
+
+// Field n of slot k's structure: its flags, then those behind them, then the two words of each string; past the last, its flags.
+pub fn field_of(k: u8, n: u8) -> FieldShape
+    ensures { λ r. ⌜ r ≡ fieldShape (kindField (kindOf k) n) ⌝ }
+{
+    let id = kind_of(k).id;
+    if id == Nic::ID {
+        return Nic::field(n);
+    }
+    if id == Target::ID {
+        return Target::field(n);
+    }
+    Initiator::field(n)
 }
 
 // The longest an iSCSI name may be (RFC 3720), and any other string.
@@ -220,6 +256,28 @@ pub fn string_of(n: u16) -> StringShape
     Initiator::NAME
 }
 
+// The number of slot k's first entry. (Past the last slot each counts as an initiator, which has one string.)
+pub fn first_entry(k: u8) -> u16
+    ensures { λ r. ⌜ r ≡ firstEntry k ⌝ }
+{
+    if SLOT_COUNT <= k {
+        return ENTRY_COUNT as u16 + (k - SLOT_COUNT) as u16;
+    }
+    if EXTRA_TARGETS <= k {
+        return TARGET_ENTRIES as u16 + 5 * (k - EXTRA_TARGETS) as u16;
+    }
+    if EXTRA_NICS <= k {
+        return NAMED_ENTRIES as u16 + (k - EXTRA_NICS) as u16;
+    }
+    match k {
+        1 => 1,
+        2 => 2,
+        3 => 7,
+        4 => 8,
+        _ => 0,
+    }
+}
+
 // May entry n, built, have bytes in common with another? A secret may not: who wipes it wipes nothing else.
 pub fn may_share(n: u16) -> bool
     ensures { λ r. ⌜ r ≡ mayShare n ⌝ }
@@ -230,6 +288,6 @@ pub fn may_share(n: u16) -> bool
 // Where the flags stand in every structure, and the CHAP type in one that has it; the CHAP types are 0 to 2.
 pub const FLAGS_AT: u8 = 5;
 
-pub const CHAP_AT: u8 = 32;
+pub const CHAP_AT: u8 = Target::CHAP_TYPE.at as u8;
 
 pub const CHAP_LAST: u8 = 2;

@@ -1,8 +1,12 @@
 // The NIC structure.
+use crate::layout::FLAGS;
+use crate::layout::FLAGS_AT;
+use crate::layout::FieldShape;
 use crate::layout::LONGEST;
 use crate::layout::SLOT_COUNT;
 use crate::layout::Shape;
 use crate::layout::StringShape;
+use crate::layout::words_of;
 use crate::reading::refusal_of;
 use crate::seats::starts_of;
 use crate::structure::index_shown;
@@ -15,8 +19,8 @@ use octets::read::six_at;
 use octets::read::sixteen_at;
 use octets::read::u16_at;
 ghost use mathlib.Core.Path.{_≡_};
-ghost use Rattle.ibft_table.specs.Layout.{nic, nicSlot};
-ghost use Rattle.ibft_table.specs.Shapes.{shapeOf};
+ghost use Rattle.ibft_table.specs.Layout.{nic, kindField, nicSlot};
+ghost use Rattle.ibft_table.specs.Shapes.{shapeOf, fieldShape};
 ghost use Rattle.ibft_table.specs.Readings.{nicIn, nicOf};
 
 // The most NICs that a table can have.
@@ -46,6 +50,27 @@ impl Nic {
     // The mask of the flag bits that are not named (flag bits 0 to 2: valid, selected, global).
     pub const RESERVED: u8 = 0xF8;
 
+    // Its fields behind the flags.
+    pub const ADDRESS: FieldShape = FieldShape { at: 6, width: 16 };
+
+    pub const PREFIX: FieldShape = FieldShape { at: 22, width: 1 };
+
+    pub const ORIGIN: FieldShape = FieldShape { at: 23, width: 1 };
+
+    pub const GATEWAY: FieldShape = FieldShape { at: 24, width: 16 };
+
+    pub const DNS: FieldShape = FieldShape { at: 40, width: 16 };
+
+    pub const SECOND_DNS: FieldShape = FieldShape { at: 56, width: 16 };
+
+    pub const DHCP: FieldShape = FieldShape { at: 72, width: 16 };
+
+    pub const VLAN: FieldShape = FieldShape { at: 88, width: 2 };
+
+    pub const MAC: FieldShape = FieldShape { at: 90, width: 6 };
+
+    pub const PCI: FieldShape = FieldShape { at: 96, width: 2 };
+
     // Its strings.
     pub(crate) const HOST: StringShape = StringShape {
         at: 98,
@@ -55,7 +80,7 @@ impl Nic {
     };
 
     // The slot of NIC n, the n-th by Index: the named ones, then the extras; past the last, no slot.
-    pub(crate) fn slot(n: u8) -> u8
+    pub fn slot(n: u8) -> u8
         ensures { λ r. ⌜ r ≡ nicSlot n ⌝ }
     {
         if MOST <= n {
@@ -86,23 +111,43 @@ impl Nic {
         }
     }
 
+    // Field n of a NIC: its flags, then those behind them, then the two words of each string; past the last, its flags.
+    pub(crate) fn field(n: u8) -> FieldShape
+        ensures { λ r. ⌜ r ≡ fieldShape (kindField nic n) ⌝ }
+    {
+        match n {
+            1 => Self::ADDRESS,
+            2 => Self::PREFIX,
+            3 => Self::ORIGIN,
+            4 => Self::GATEWAY,
+            5 => Self::DNS,
+            6 => Self::SECOND_DNS,
+            7 => Self::DHCP,
+            8 => Self::VLAN,
+            9 => Self::MAC,
+            10 => Self::PCI,
+            11 => words_of(Self::HOST),
+            _ => FLAGS,
+        }
+    }
+
     // The NIC whose first byte is the part's.
     pub(crate) fn read(part: &[u8]) -> Nic
         ensures { λ r. ⌜ r ≡ nicIn (now (part .entry)) ⌝ }
     {
         Nic {
-            flags: byte_at(part, 5),
-            address: sixteen_at(part, 6),
-            prefix: byte_at(part, 22),
-            origin: byte_at(part, 23),
-            gateway: sixteen_at(part, 24),
-            dns: sixteen_at(part, 40),
-            second_dns: sixteen_at(part, 56),
-            dhcp: sixteen_at(part, 72),
-            vlan: u16_at(part, 88),
-            mac: six_at(part, 90),
-            pci: u16_at(part, 96),
-            host: Text::read(part, 98),
+            flags: byte_at(part, FLAGS_AT as usize),
+            address: sixteen_at(part, Self::ADDRESS.at as usize),
+            prefix: byte_at(part, Self::PREFIX.at as usize),
+            origin: byte_at(part, Self::ORIGIN.at as usize),
+            gateway: sixteen_at(part, Self::GATEWAY.at as usize),
+            dns: sixteen_at(part, Self::DNS.at as usize),
+            second_dns: sixteen_at(part, Self::SECOND_DNS.at as usize),
+            dhcp: sixteen_at(part, Self::DHCP.at as usize),
+            vlan: u16_at(part, Self::VLAN.at as usize),
+            mac: six_at(part, Self::MAC.at as usize),
+            pci: u16_at(part, Self::PCI.at as usize),
+            host: Text::read(part, Self::HOST.at as u32),
         }
     }
 }

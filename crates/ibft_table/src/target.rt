@@ -1,9 +1,13 @@
 // The target structure.
+use crate::layout::FLAGS;
+use crate::layout::FLAGS_AT;
+use crate::layout::FieldShape;
 use crate::layout::LONGEST;
 use crate::layout::LONGEST_NAME;
 use crate::layout::SLOT_COUNT;
 use crate::layout::Shape;
 use crate::layout::StringShape;
+use crate::layout::words_of;
 use crate::reading::refusal_of;
 use crate::seats::starts_of;
 use crate::structure::index_shown;
@@ -16,8 +20,8 @@ use octets::read::sixteen_at;
 use octets::read::u16_at;
 use octets::read::u64_at;
 ghost use mathlib.Core.Path.{_≡_};
-ghost use Rattle.ibft_table.specs.Layout.{target, targetSlot};
-ghost use Rattle.ibft_table.specs.Shapes.{shapeOf};
+ghost use Rattle.ibft_table.specs.Layout.{target, kindField, targetSlot};
+ghost use Rattle.ibft_table.specs.Shapes.{shapeOf, fieldShape};
 ghost use Rattle.ibft_table.specs.Readings.{targetIn, targetOf};
 
 // The most targets that a table can have.
@@ -45,6 +49,17 @@ impl Target {
     pub const LENGTH: u16 = 54;
     // The mask of the flag bits that are not named (flag bits 0 to 3: valid, selected, Radius CHAP, Radius rCHAP).
     pub const RESERVED: u8 = 0xF0;
+
+    // Its fields behind the flags.
+    pub const ADDRESS: FieldShape = FieldShape { at: 6, width: 16 };
+
+    pub const SOCKET: FieldShape = FieldShape { at: 22, width: 2 };
+
+    pub const LUN: FieldShape = FieldShape { at: 24, width: 8 };
+
+    pub const CHAP_TYPE: FieldShape = FieldShape { at: 32, width: 1 };
+
+    pub const NIC: FieldShape = FieldShape { at: 33, width: 1 };
 
     // Its strings.
     pub(crate) const NAME: StringShape = StringShape {
@@ -88,7 +103,7 @@ impl Target {
     pub const SELECTED: u8 = 2;
 
     // The slot of Target n, the n-th by Index: the named ones, then the extras; past the last, no slot.
-    pub(crate) fn slot(n: u8) -> u8
+    pub fn slot(n: u8) -> u8
         ensures { λ r. ⌜ r ≡ targetSlot n ⌝ }
     {
         if MOST <= n {
@@ -119,22 +134,41 @@ impl Target {
         }
     }
 
+    // Field n of a target: its flags, then those behind them, then the two words of each string; past the last, its flags.
+    pub(crate) fn field(n: u8) -> FieldShape
+        ensures { λ r. ⌜ r ≡ fieldShape (kindField target n) ⌝ }
+    {
+        match n {
+            1 => Self::ADDRESS,
+            2 => Self::SOCKET,
+            3 => Self::LUN,
+            4 => Self::CHAP_TYPE,
+            5 => Self::NIC,
+            6 => words_of(Self::NAME),
+            7 => words_of(Self::CHAP_NAME),
+            8 => words_of(Self::CHAP_SECRET),
+            9 => words_of(Self::REVERSE_NAME),
+            10 => words_of(Self::REVERSE_SECRET),
+            _ => FLAGS,
+        }
+    }
+
     // The target whose first byte is the part's.
     pub(crate) fn read(part: &[u8]) -> Target
         ensures { λ r. ⌜ r ≡ targetIn (now (part .entry)) ⌝ }
     {
         Target {
-            flags: byte_at(part, 5),
-            address: sixteen_at(part, 6),
-            socket: u16_at(part, 22),
-            lun: u64_at(part, 24),
-            chap_type: byte_at(part, 32),
-            nic: byte_at(part, 33),
-            name: Text::read(part, 34),
-            chap_name: Text::read(part, 38),
-            chap_secret: Text::read(part, 42),
-            reverse_name: Text::read(part, 46),
-            reverse_secret: Text::read(part, 50),
+            flags: byte_at(part, FLAGS_AT as usize),
+            address: sixteen_at(part, Self::ADDRESS.at as usize),
+            socket: u16_at(part, Self::SOCKET.at as usize),
+            lun: u64_at(part, Self::LUN.at as usize),
+            chap_type: byte_at(part, Self::CHAP_TYPE.at as usize),
+            nic: byte_at(part, Self::NIC.at as usize),
+            name: Text::read(part, Self::NAME.at as u32),
+            chap_name: Text::read(part, Self::CHAP_NAME.at as u32),
+            chap_secret: Text::read(part, Self::CHAP_SECRET.at as u32),
+            reverse_name: Text::read(part, Self::REVERSE_NAME.at as u32),
+            reverse_secret: Text::read(part, Self::REVERSE_SECRET.at as u32),
         }
     }
 }

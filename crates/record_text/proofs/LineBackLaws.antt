@@ -1,26 +1,26 @@
--- A line that is told, entered again, gives its field the bytes that the table has: its name is found to be the field's, and its value is left
--- whole, since no blank stands at the value's ends and no line feed in it.
---     named-back              the name of a field names that field
---     told-line               the line of a field has no line feed
---     told-line-read          it is read as that field and that text
+-- A line that is told is read as what it tells: its name is the field's, and its value is left whole, since no blank stands at the value's
+-- ends and no line feed in it.
+--     slot-alone, index-small, slot-index, group-indexed      the Index of a group
+--     told-with, told-line    the line of a field: it has no line feed but its last byte
+--     told-line-found         it names that field
 --     told-line-value         a field that is no string is given the table's bytes
 --     told-line-string        so is a string
 -- Assumes nothing.
-use mathlib.Core.Path.{_≡_, refl, ap, _∙_}
-use mathlib.Core.List.{List, [], _∷_, _++_, append-nil}
-use mathlib.Core.Bool.{Bool, true, false, not, _&&_, _||_}
+use mathlib.Core.Path.{_≡_, refl, sym, ap, _∙_}
+use mathlib.Core.List.{List, [], _∷_, _++_, append-nil, append-assoc}
+use mathlib.Core.Bool.{Bool, true, false, cond, not, _&&_, _||_}
 use mathlib.Core.Option.{some}
 use Prim.Native.Char.{code}
-use Prim.Native.Nat.{ℕ, zero, suc, _+_, _*_, _^_, _/_, _%_, _≤_, _<_}
+use Prim.Native.Nat.{ℕ, zero, suc, _+_, _^_, _/_, _%_, _≤_, _<_}
 use native.Mathlib.Decide.{decLt}
 use native.Mathlib.Omega.{arith}
-use borrow.Author.Tests.{eqb-true, ltb-true, lt-leb, le-leb, ne-eqb, not-true}
-use lib.ListN.{length, take, drop, length-append, length-take, length-drop, List·getD-append}
-use lib.Dec.{eqb, leb, ltb}
+use borrow.Author.Tests.{eqb-true, ltb-true, lt-ltb, le-ltb, le-leb, ne-eqb, not-true, not-false}
+use lib.ListN.{length, getD, take, drop, length-append, length-take, length-drop, List·getD-append}
+use lib.Dec.{eqb, ltb}
 use Rattle.octets.specs.Counting.{first, any, tabulate, gather}
 use Rattle.octets.specs.Octets.{byte, word16, word64, bytesAt, part}
-use Rattle.octets.proofs.CountingLaws.{any-none, each-holds, clash}
-use Rattle.octets.proofs.TestLaws.{and-both, or-no}
+use Rattle.octets.proofs.CountingLaws.{any-none, each-holds}
+use Rattle.octets.proofs.TestLaws.{and-both, and-other, or-no}
 use Rattle.text.specs.Split.{isBlank, is, indexOf, same, each, blanks, trimEnd, trim, lacks}
 use Rattle.text.specs.Words.{wordAt, wordCount, wordSetText, goodList}
 use Rattle.text.specs.Computing.{computing as of-text}
@@ -31,65 +31,66 @@ use Rattle.notation.specs.Mac.{colonPair, macText}
 use Rattle.notation.specs.Pci.{deviceText, pciText}
 use Rattle.notation.specs.Escape.{stringText}
 use Rattle.notation.proofs.PieceLaws.{lacks-append, lacks-each}
-use Rattle.notation.proofs.NumberLaws.{digits-some, digits-each, padded-each, padded-length}
+use Rattle.notation.proofs.NumberLaws.{digits-some, padded-each, padded-length}
 use Rattle.notation.proofs.AddressLaws.{text-lacks, text-some}
 use Rattle.notation.proofs.EscapeLaws.{text-nonempty, text-line, text-whole}
-use Rattle.record_text.specs.Fields.{groupCount, groupOf, groupNumber, isText, fieldOf, fieldCount, nameOf, fieldNamed}
+use Rattle.ibft_table.specs.Layout.{slotCount, namedCount, kindOf, indices, indexOf as namedIndex}
+use Rattle.ibft_table.specs.Table.{startsOf, startIn, presentIn, indexIn}
+use Rattle.ibft_table.specs.Check.{checkOf}
+use Rattle.ibft_table.specs.Record.{recordOf, contentIn, contentOf}
+use Rattle.ibft_table.specs.declared.verdict.Verdict.the-variants.{Accepted}
+use Rattle.ibft_laws.proofs.RecordLaws.{index-listed}
+use Rattle.record_text.specs.Fields.{firstStructure, firstIndexed, kindCount, groupOf, isText, fieldOf, fieldCount, nameOf}
 use Rattle.record_text.specs.Value.{modes, chapTypes, valueText, fieldText}
-use Rattle.record_text.specs.Enter.{Draft, withValue, withString, capacity, stepOf, plainStep, stringStep, valueStep, fieldStep, saysNothing, lineStep}
-use Rattle.record_text.specs.Tell.{bytesOf}
-use Rattle.record_text.specs.Computing.{computing}
-use Rattle.record_text.specs.declared.fields.Found.{Found}
-use Rattle.record_text.specs.declared.fields.Found.the-variants.{Number as Named, Nothing}
+use Rattle.record_text.specs.Enter.{Draft, groupCount, givenAt, withValue, withString, capacity, stepOf, plainStep, stringStep, valueStep, hasSlot, fieldStep, saysNothing, lineFound, lineStep}
+use Rattle.record_text.specs.Tell.{slotIn, kindNumber, indexHeld, recordField, lineWith}
+use Rattle.record_text.specs.Promises.{Bytes}
+use Rattle.record_text.specs.declared.fields.FieldName.{FieldName}
+use Rattle.record_text.specs.declared.fields.Found.the-variants.{Named}
 use Rattle.record_text.specs.declared.fields.Notation.{Notation}
-use Rattle.record_text.specs.declared.fields.Notation.the-variants.{Oem, Mode, Flags, Number, Address, Mac, Pci, Chap, Text}
+use Rattle.record_text.specs.declared.fields.Notation.the-variants.{Oem, Mode, Flags, Number, Port, Address, Mac, Pci, Chap, Text}
+use Rattle.record_text.proofs.Entered.{nameIn}
+use Rattle.record_text.proofs.NameBackLaws.{number-lacks, Indexed, NameFacts, name-facts}
+use Rattle.record_text.proofs.ValueLaws.{each-at}
 use Rattle.record_text.proofs.ValueBackLaws.{Said}
-use Rattle.record_text.proofs.ToldBackLaws.{text-is, told-number, told-group, told-said, told-value, told-string}
+use Rattle.record_text.proofs.ToldBackLaws.{group-known, text-is, told-said, told-value, told-string}
 
--- ---- the name of a field
+-- ---- the Index of a group
 
-names : ℕ → Found → Bool
-names f Nothing = false
-names f (Named g) = eqb g f
+-- a kind without an Index has one slot, the first
+pub slot-alone : (k : ℕ) → k < slotCount → (kindOf k) .id < firstIndexed → k ≡ 0
+unfolding any first kindOf
+slot-alone k h low =
+    let none = any-none slotCount (λ (k : ℕ). ltb ((kindOf k) .id) firstIndexed && not (eqb k 0)) refl k h in
+    eqb-true k 0 (not-false (eqb k 0) (and-other (ltb ((kindOf k) .id) firstIndexed) _ none (lt-ltb ((kindOf k) .id) firstIndexed low)))
 
-names-it : (f : ℕ) (x : Found) → names f x ≡ true → x ≡ Named f
-unfolding names
-names-it f Nothing e = clash e refl
-names-it f (Named g) e = ap Named (eqb-true g f e)
+pub index-small : (starts t : List ℕ) → Bytes t → (k : ℕ) → indexIn starts t k < 256
+unfolding indexIn namedIndex each
+index-small starts t small k = go (ltb k namedCount) (presentIn starts k)
+  where
+    go : (a b : Bool) → cond a (namedIndex k) (cond b (byte t (startIn starts k + 4)) 0) < 256
+    go true b = ltb-true (namedIndex k) 256 (each-at (λ (i : ℕ). ltb i 256) indices k 0 refl refl)
+    go false true = small (startIn starts k + 4)
+    go false false = omega arith
 
--- the name of number f, where that is a field: it names f, is not empty, has no blank and no line feed, and does not begin as a comment does
-goodName : ℕ → Bool
-goodName f =
-    leb (fieldCount (groupNumber f)) (f % 16)
-    || (names f (fieldNamed (nameOf f)) && (ltb 0 (length (nameOf f)) && (lacks isBlank (nameOf f) && (lacks (is 10) (nameOf f) && not (eqb (byte (nameOf f) 0) (code "#"))))))
+pub slot-index : (t : List ℕ) (k : ℕ) → k < slotCount → getD ((recordOf t) .indices) k 0 ≡ indexIn (startsOf t) t k
+unfolding recordOf contentOf contentIn
+slot-index t k h = index-listed (contentOf t) k h
 
-record NameFacts (f : ℕ) : Type 0 where
-  named : fieldNamed (nameOf f) ≡ Named f
-  some : 0 < length (nameOf f)
-  whole : lacks isBlank (nameOf f) ≡ true
-  line : lacks (is 10) (nameOf f) ≡ true
-  plain : eqb (byte (nameOf f) 0) (code "#") ≡ false
-
-names-good : any (16 * groupCount) (λ (f : ℕ). not (goodName f)) ≡ false
-unfolding computing any first goodName names
-names-good = refl
-
-name-facts : (f : ℕ) → groupNumber f < groupCount → f % 16 < fieldCount (groupNumber f) → NameFacts f
-unfolding goodName
-name-facts f group number =
-    let low : f < 16 * groupCount = omega arith in
-    let good = rw (lt-leb (fieldCount (groupNumber f)) (f % 16) number) at (each-holds (16 * groupCount) goodName names-good f low) in
-    let a = and-both (names f (fieldNamed (nameOf f))) _ good in
-    let b = and-both (ltb 0 (length (nameOf f))) _ (a .1) in
-    let c = and-both (lacks isBlank (nameOf f)) _ (b .1) in
-    let d = and-both (lacks (is 10) (nameOf f)) _ (c .1) in
-    record {
-      named = names-it f (fieldNamed (nameOf f)) (a .0);
-      some = ltb-true 0 (length (nameOf f)) (b .0);
-      whole = c .0;
-      line = d .0;
-      plain = not-true (eqb (byte (nameOf f) 0) (code "#")) (d .1);
-    }
+pub group-indexed : (t : List ℕ) → Bytes t → (g : ℕ) → g < groupCount → Indexed (kindNumber g) (indexHeld (recordOf t) g)
+unfolding kindNumber indexHeld indexIn namedIndex
+group-indexed t small g h =
+    elim (decLt g firstStructure) [
+      | yes l ↦ rw (lt-ltb g firstStructure l) (record { byte-sized = omega arith; absent = λ k. refl })
+      | no l ↦
+          let below : slotIn g < slotCount = omega arith in
+          let held = slot-index t (slotIn g) below in
+          rw (le-ltb g firstStructure (omega arith))
+          (record {
+            byte-sized = rw held (index-small (startsOf t) t small (slotIn g));
+            absent = λ low. held ∙ ap (indexIn (startsOf t) t) (slot-alone (slotIn g) below low);
+          })
+    ]
 
 -- ---- the text of a value: not empty, no blank at its ends, no line feed
 
@@ -141,18 +142,18 @@ chap-facts : (n : ℕ) → n < wordCount chapTypes → ValueFacts (wordAt chapTy
 unfolding of-text any first goodText
 chap-facts n h = of-test (wordAt chapTypes n) (each-holds 3 (λ (k : ℕ). goodText (wordAt chapTypes k)) refl n h)
 
--- sets of words, group by group; the groups before the structures have no flags
-flags-facts : (g : ℕ) → g < groupCount → goodList ((groupOf g) .flags) ≡ true → (v : ℕ) → v < 2 ^ wordCount ((groupOf g) .flags)
-    → ValueFacts (wordSetText ((groupOf g) .flags) v)
-unfolding of-text any first goodText groupOf
-flags-facts zero h good v l = clash good refl
-flags-facts (suc zero) h good v l = clash good refl
-flags-facts (suc (suc zero)) h good v l = of-test _ (each-holds 4 (λ (k : ℕ). goodText (wordSetText ((groupOf 2) .flags) k)) refl v l)
-flags-facts (suc (suc (suc zero))) h good v l = of-test _ (each-holds 8 (λ (k : ℕ). goodText (wordSetText ((groupOf 3) .flags) k)) refl v l)
-flags-facts (suc (suc (suc (suc zero)))) h good v l = of-test _ (each-holds 16 (λ (k : ℕ). goodText (wordSetText ((groupOf 4) .flags) k)) refl v l)
-flags-facts (suc (suc (suc (suc (suc zero))))) h good v l = of-test _ (each-holds 8 (λ (k : ℕ). goodText (wordSetText ((groupOf 5) .flags) k)) refl v l)
-flags-facts (suc (suc (suc (suc (suc (suc zero)))))) h good v l = of-test _ (each-holds 16 (λ (k : ℕ). goodText (wordSetText ((groupOf 6) .flags) k)) refl v l)
-flags-facts (suc (suc (suc (suc (suc (suc (suc g))))))) h good v l = absurd (omega arith)
+-- sets of words, kind by kind; kinds that are no structure's have no flags
+goodFlags : ℕ → Bool
+goodFlags kind =
+    not (goodList ((groupOf kind) .flags))
+    || not (any (2 ^ wordCount ((groupOf kind) .flags)) (λ (v : ℕ). not (goodText (wordSetText ((groupOf kind) .flags) v))))
+
+flags-facts : (kind : ℕ) → kind < kindCount → goodList ((groupOf kind) .flags) ≡ true → (v : ℕ) → v < 2 ^ wordCount ((groupOf kind) .flags)
+    → ValueFacts (wordSetText ((groupOf kind) .flags) v)
+unfolding of-text any first goodText groupOf goodFlags
+flags-facts kind h good v l =
+    let all = rw good at (each-holds kindCount goodFlags refl kind h) in
+    of-test _ (each-holds (2 ^ wordCount ((groupOf kind) .flags)) (λ (v : ℕ). goodText (wordSetText ((groupOf kind) .flags) v)) (not-true _ all) v l)
 
 -- bytes that are no digits are in no number
 module _ (p : ℕ → Bool) (other : any 16 (λ (d : ℕ). p (digitByte d)) ≡ false) where
@@ -161,9 +162,6 @@ module _ (p : ℕ → Bool) (other : any 16 (λ (d : ℕ). p (digitByte d)) ≡ 
 
   digit-fails : (d : ℕ) → d < 16 → Fails (digitByte d)
   digit-fails = any-none 16 (λ (d : ℕ). p (digitByte d)) other
-
-  number-lacks : (n : ℕ) → lacks p (digits 10 n) ≡ true
-  number-lacks n = lacks-each p (digits 10 n) (digits-each 10 (omega arith) (omega arith) Fails digit-fails n)
 
   padded-lacks : (n : ℕ) → lacks p (padded 2 16 n) ≡ true
   padded-lacks n = lacks-each p (padded 2 16 n) (padded-each 16 (omega arith) (omega arith) Fails digit-fails 2 n)
@@ -201,85 +199,113 @@ feed-other : any 16 (λ (d : ℕ). is 10 (digitByte d)) ≡ false
 unfolding any first tabulate digitByte
 feed-other = refl
 
-value-facts : (g : ℕ) → g < groupCount → (notation : Notation) (bytes : List ℕ) → Said ((groupOf g) .flags) notation bytes
-    → ValueFacts (valueText ((groupOf g) .flags) notation bytes)
+-- a number is left whole
+of-number : (n : ℕ) → ValueFacts (digits 10 n)
+of-number n = of-lacks (digits 10 n) (digits-some 10 (omega arith) n) (number-lacks isBlank blank-other n) (number-lacks (is 10) feed-other n)
+
+value-facts : (kind : ℕ) → kind < kindCount → (notation : Notation) (bytes : List ℕ) → Said ((groupOf kind) .flags) notation bytes
+    → ValueFacts (valueText ((groupOf kind) .flags) notation bytes)
 unfolding valueText isBlank
-value-facts g h Oem bytes s = of-string (take (indexOf 0 bytes) bytes)
-value-facts g h Mode bytes s = mode-facts (byte bytes 0) s
-value-facts g h Flags bytes s = flags-facts g h (s .0) (byte bytes 0) (s .1)
-value-facts g h Number bytes s =
-    let n = word64 bytes 0 in
-    of-lacks (digits 10 n) (digits-some 10 (omega arith) n) (number-lacks isBlank blank-other n) (number-lacks (is 10) feed-other n)
-value-facts g h Address bytes s =
+value-facts kind h Oem bytes s = of-string (take (indexOf 0 bytes) bytes)
+value-facts kind h Mode bytes s = mode-facts (byte bytes 0) s
+value-facts kind h Flags bytes s = flags-facts kind h (s .0) (byte bytes 0) (s .1)
+value-facts kind h Number bytes s = of-number (word64 bytes 0)
+value-facts kind h Port bytes s = of-number (word64 bytes 0)
+value-facts kind h Address bytes s =
     let a = bytesAt bytes 0 16 in
     of-lacks (addressText a) (text-some a) (text-lacks a isBlank blank-other refl refl) (text-lacks a (is 10) feed-other refl refl)
-value-facts g h Mac bytes s =
+value-facts kind h Mac bytes s =
     of-lacks (macText bytes) (mac-some bytes) (mac-lacks isBlank blank-other refl bytes) (mac-lacks (is 10) feed-other refl bytes)
-value-facts g h Pci bytes s =
+value-facts kind h Pci bytes s =
     let w = word16 bytes 0 in
     of-lacks (pciText w) (pci-some w) (pci-lacks isBlank blank-other refl refl w) (pci-lacks (is 10) feed-other refl refl w)
-value-facts g h Chap bytes s = chap-facts (byte bytes 0) s
-value-facts g h Text bytes s = absurd s
+value-facts kind h Chap bytes s = chap-facts (byte bytes 0) s
+value-facts kind h Text bytes s = absurd s
 
 -- ---- a line that is told, entered
 
-module _ (t : List ℕ) (small : (i : ℕ) → byte t i < 256) (f : ℕ) (bytes : List ℕ) (told : bytesOf t f ≡ some bytes) where
+blank : isBlank (code " ") ≡ true
+unfolding isBlank
+blank = refl
+
+module _ (t : List ℕ) (ok : checkOf t ≡ Accepted) (small : Bytes t) (g n : ℕ) (group : g < groupCount) (number : n < fieldCount (kindNumber g))
+    (bytes : List ℕ) (told : recordField (recordOf t) g n ≡ some bytes) where
+  abbrev kind : ℕ
+  kind = kindNumber g
+
+  abbrev index : ℕ
+  index = indexHeld (recordOf t) g
+
   abbrev text : List ℕ
-  text = fieldText f bytes
+  text = fieldText kind n bytes
+
+  abbrev own : List ℕ
+  own = nameOf kind index n
 
   abbrev pub line : List ℕ
-  line = nameOf f ++ (code " " ∷ text)
+  line = own ++ (code " " ∷ text)
 
-  name : NameFacts f
-  name = name-facts f (told-group t small f bytes told) (told-number t small f bytes told)
+  name : NameFacts kind index n
+  name = name-facts kind index n (group-known g) (group-indexed t small g group) number
 
   value : ValueFacts text
-  value = go (isText ((fieldOf f) .notation)) refl
+  value = go (isText ((fieldOf kind n) .notation)) refl
     where
-      go : (b : Bool) → isText ((fieldOf f) .notation) ≡ b → ValueFacts text
-      go true e = rw (text-is ((groupOf (groupNumber f)) .flags) ((fieldOf f) .notation) bytes e) (of-string bytes)
-      go false e = value-facts (groupNumber f) (told-group t small f bytes told) ((fieldOf f) .notation) bytes (told-said t small f bytes told e)
+      go : (b : Bool) → isText ((fieldOf kind n) .notation) ≡ b → ValueFacts text
+      go true e = rw (text-is ((groupOf kind) .flags) ((fieldOf kind n) .notation) bytes e) (of-string bytes)
+      go false e = value-facts kind (group-known g) ((fieldOf kind n) .notation) bytes (told-said t ok small g n group number bytes told e)
 
-  blank : isBlank (code " ") ≡ true
-  unfolding isBlank
-  blank = refl
+  -- the line as it is told
+  pub told-with : lineWith kind index n bytes ≡ line ++ (10 ∷ [])
+  unfolding lineWith
+  told-with = sym (append-assoc own (code " " ∷ text) (10 ∷ []))
 
   pub told-line : lacks (is 10) line ≡ true
   unfolding each
-  told-line = lacks-append (is 10) (nameOf f) (code " " ∷ text) (name .line) (value .line)
+  told-line = lacks-append (is 10) own (code " " ∷ text) (name .line) (value .line)
 
   line-whole : trim line ≡ line
-  line-whole = trim-line (nameOf f) (code " ") text (name .whole) blank (name .some) (value .some) (value .ends)
+  line-whole = trim-line own (code " ") text (name .whole) blank (name .some) (value .some) (value .ends)
 
   line-says : saysNothing line ≡ false
   unfolding saysNothing
   line-says =
-      let front : byte line 0 ≡ byte (nameOf f) 0 = List·getD-append (nameOf f) (code " " ∷ text) 0 0 (name .some) in
+      let front : byte line 0 ≡ byte own 0 = List·getD-append own (code " " ∷ text) 0 0 (name .some) in
       or-no (eqb (length line) 0) (eqb (byte line 0) (code "#"))
-      (ne-eqb (length line) 0 (omega (arith, name .some, length-append (nameOf f) (code " " ∷ text))))
+      (ne-eqb (length line) 0 (omega (arith, name .some, length-append own (code " " ∷ text))))
       (ap (λ (b : ℕ). eqb b (code "#")) front ∙ name .plain)
 
+  pub told-line-found : lineFound line ≡ Named (nameIn (recordOf t) g n)
+  unfolding lineFound
+  told-line-found =
+      rw (line-whole, line-says, field-line own (code " ") text (name .whole) blank, name .named)
+
   module _ (d : Draft) where
-    pub told-line-read : lineStep d line ≡ fieldStep d text (Named f)
+    told-line-read : lineStep d line ≡ fieldStep d text (Named (nameIn (recordOf t) g n))
     unfolding lineStep
     told-line-read =
-        let own = field-line (nameOf f) (code " ") text (name .whole) blank in
-        let rest = value-line (nameOf f) (code " ") text (name .whole) blank ∙ value .whole in
-        rw (line-whole, line-says, own, rest, name .named)
+        let rest = value-line own (code " ") text (name .whole) blank ∙ value .whole in
+        rw (told-line-found, line-whole, line-says, rest)
 
-    module _ (first-time : byte (d .given) f ≡ 1 → ⊥) where
-      pub told-line-value : isText ((fieldOf f) .notation) ≡ false → lineStep d line ≡ stepOf 0 f (withValue d f bytes)
+    abbrev f : FieldName
+    f = nameIn (recordOf t) g n
+
+    module _ (seat : hasSlot (d .marks) f ≡ true) (first-time : byte (d .given) (givenAt d f) ≡ 1 → ⊥) where
+      pub told-line-value : isText ((fieldOf kind n) .notation) ≡ false → lineStep d line ≡ stepOf 0 f (withValue d f bytes)
       unfolding fieldStep valueStep plainStep
-      told-line-value plain = told-line-read ∙ rw (ne-eqb (byte (d .given) f) 1 first-time, plain, told-value t small f bytes told plain)
+      told-line-value plain =
+          told-line-read
+          ∙ rw (seat, ne-eqb (byte (d .given) (givenAt d f)) 1 first-time, plain, told-value t ok small g n group number bytes told plain)
 
-      pub told-line-string : isText ((fieldOf f) .notation) ≡ true → d .used + length bytes ≤ capacity (d .strings)
+      pub told-line-string : isText ((fieldOf kind n) .notation) ≡ true → d .used + length bytes ≤ capacity (d .strings)
           → lineStep d line ≡ stepOf 0 f (withString d f bytes)
       unfolding fieldStep valueStep stringStep
       told-line-string is-text room =
           told-line-read
           ∙ rw (
-            ne-eqb (byte (d .given) f) 1 first-time,
+            seat,
+            ne-eqb (byte (d .given) (givenAt d f)) 1 first-time,
             is-text,
-            told-string t small f bytes told is-text,
+            told-string t ok small g n group number bytes told is-text,
             le-leb (d .used + length bytes) (capacity (d .strings)) room,
           )

@@ -7,44 +7,39 @@
 use mathlib.Core.Path.{_≡_, refl, sym, ap, _∙_}
 use mathlib.Core.List.{List, [], _∷_, _++_}
 use mathlib.Core.Bool.{Bool, true, false, cond, _||_}
-use mathlib.Core.Option.{Option, none, some, Option·map}
-use Prim.Native.Nat.{ℕ, zero, suc, _+_, _-_, _*_, _^_, _≤_, _<_}
+use mathlib.Core.Option.{some, Option·map}
+use Prim.Native.Nat.{ℕ, zero, suc, _-_, _^_, _≤_, _<_}
 use native.Mathlib.Nat.{zero-add}
 use native.Mathlib.Omega.{arith}
-use borrow.Author.Tests.{lt-ltb, le-leb, eqb-true, leb-true}
-use lib.ListN.{length, getD, take, drop}
-use lib.Dec.{eqb, leb, ltb}
+use borrow.Author.Tests.{lt-ltb, le-leb, eqb-true}
+use lib.ListN.{length, take}
+use lib.Dec.{eqb}
 use Rattle.octets.specs.Octets.{byte, word16, word64, bytesPast, bytesAt, le16, le64, zeros, allZero}
 use Rattle.octets.proofs.ReadLaws.{bytes-elements, byte-past}
 use Rattle.octets.proofs.TestLaws.{and-both}
 use Rattle.octets.proofs.WordLaws.{two, le16-word, le64-word}
 use Rattle.text.specs.Split.{before, indexOf}
-use Rattle.text.specs.Words.{wordsOf, wordAt, wordCount, wordNumber, readWordSet, wordSetText, distinct, goodList}
+use Rattle.text.specs.Words.{wordsOf, wordAt, wordCount, readWordSet, wordSetText, distinct, goodList}
 use Rattle.text.specs.Computing.{computing}
-use Rattle.text.specs.declared.words.WordSet.{WordSet}
 use Rattle.text.proofs.WordSetLaws.{number-at, set-back}
-use Rattle.notation.specs.Number.{numberUpTo, digits}
+use Rattle.notation.specs.Number.{digits}
 use Rattle.notation.proofs.NumberLaws.{numberUpTo-digits}
 use Rattle.notation.specs.Address.{readAddress, addressText}
 use Rattle.notation.proofs.AddressLaws.{address-back}
-use Rattle.notation.specs.Mac.{readMac, macText}
 use Rattle.notation.proofs.MacLaws.{mac-back}
 use Rattle.notation.specs.Pci.{readPci, pciText}
 use Rattle.notation.proofs.PciLaws.{pci-back}
-use Rattle.notation.specs.Escape.{stringOf, stringText}
+use Rattle.notation.specs.Escape.{stringOf}
 use Rattle.notation.proofs.EscapeLaws.{string-back}
 use Rattle.ibft_table.specs.Check.{padded}
-use Rattle.record_text.specs.Fields.{groupOf, groupNumber, fieldOf}
+use Rattle.record_text.specs.Fields.{groupOf, fieldOf}
 use Rattle.record_text.specs.Value.{modes, chapTypes, wordByte, setByte, filled, numberBytes, valueBytes, fits, fieldBytes, oemText, valueText, fieldText}
+use Rattle.record_text.specs.Promises.{Bytes}
 use Rattle.record_text.specs.declared.fields.Notation.{Notation}
-use Rattle.record_text.specs.declared.fields.Notation.the-variants.{Oem, Mode, Flags, Number, Address, Mac, Pci, Chap, Text}
+use Rattle.record_text.specs.declared.fields.Notation.the-variants.{Oem, Mode, Flags, Number, Port, Address, Mac, Pci, Chap, Text}
 use Rattle.record_text.proofs.ValueLaws.{field-fits}
 
 -- ---- bytes
-
--- each is below 256
-abbrev pub Small : List ℕ → Type 0
-Small t = (i : ℕ) → byte t i < 256
 
 listed : (bytes : List ℕ) (n : ℕ) → length bytes ≡ n → bytes ≡ bytesAt bytes 0 n
 listed bytes n e = bytes-elements bytes bytes 0 n e (λ j h. ap (byte bytes) (sym (zero-add j)))
@@ -75,7 +70,7 @@ flags-back flags bytes good h e = ap setByte (set-back flags (byte bytes 0) good
 
 -- ---- numbers
 
-module _ (bytes : List ℕ) (small : Small bytes) where
+module _ (bytes : List ℕ) (small : Bytes bytes) where
   -- a number of so many bytes
   abbrev Back : ℕ → Type 0
   Back width = length bytes ≡ width → numberBytes width (digits 10 (word64 bytes 0)) ≡ some bytes
@@ -141,7 +136,7 @@ zeros-are (b ∷ t) e =
     let both = and-both (eqb b 0) (allZero t) e in
     rw (eqb-true b 0 (both .0), zeros-are t (both .1))
 
-pub take-small : (t : List ℕ) (n : ℕ) → Small t → Small (take n t)
+pub take-small : (t : List ℕ) (n : ℕ) → Bytes t → Bytes (take n t)
 take-small [] zero h i = omega arith
 take-small [] (suc n) h i = h i
 take-small (b ∷ t) zero h i = omega arith
@@ -182,7 +177,7 @@ index-most (b ∷ t) = go (eqb b 0) (index-most t)
     go true rest = omega arith
     go false rest = omega arith
 
-oem-back : (width : ℕ) (bytes : List ℕ) → padded bytes ≡ true → length bytes ≡ width → Small bytes
+oem-back : (width : ℕ) (bytes : List ℕ) → padded bytes ≡ true → length bytes ≡ width → Bytes bytes
     → filled width (stringOf (oemText bytes)) ≡ some bytes
 oem-back width bytes pad e small =
     let string = take (indexOf 0 bytes) bytes in
@@ -200,6 +195,7 @@ Said flags Oem bytes = padded bytes ≡ true
 Said flags Mode bytes = byte bytes 0 < wordCount modes
 Said flags Flags bytes = (goodList flags ≡ true) × (byte bytes 0 < 2 ^ wordCount flags)
 Said flags Number bytes = Unit
+Said flags Port bytes = Unit
 Said flags Address bytes = Unit
 Said flags Mac bytes = Unit
 Said flags Pci bytes = Unit
@@ -209,13 +205,14 @@ Said flags Text bytes = ⊥
 sized : (width k : ℕ) (bytes : List ℕ) → eqb width k ≡ true → length bytes ≡ width → length bytes ≡ k
 sized width k bytes f e = e ∙ eqb-true width k f
 
-pub value-back : (flags : List ℕ) (notation : Notation) (width : ℕ) (bytes : List ℕ) → fits notation width ≡ true → length bytes ≡ width → Small bytes
+pub value-back : (flags : List ℕ) (notation : Notation) (width : ℕ) (bytes : List ℕ) → fits notation width ≡ true → length bytes ≡ width → Bytes bytes
     → Said flags notation bytes → valueBytes flags notation width (valueText flags notation bytes) ≡ some bytes
 unfolding valueBytes valueText fits
 value-back flags Oem width bytes f e small said = oem-back width bytes said e small
 value-back flags Mode width bytes f e small said = word-back modes bytes modes-distinct said (sized width 1 bytes f e)
 value-back flags Flags width bytes f e small said = flags-back flags bytes (said .0) (said .1) (sized width 1 bytes f e)
 value-back flags Number width bytes f e small said = number-back bytes small width f e
+value-back flags Port width bytes f e small said = at-width bytes small 2 width (eqb-true width 2 f) (back-two bytes small) e
 value-back flags Address width bytes f e small said =
     let all = sized width 16 bytes f e in
     ap (λ (t : List ℕ). readAddress (addressText t)) (sym (listed bytes 16 all)) ∙ address-back bytes all small
@@ -224,7 +221,8 @@ value-back flags Pci width bytes f e small said = pci-bytes bytes small (sized w
 value-back flags Chap width bytes f e small said = word-back chapTypes bytes types-distinct said (sized width 1 bytes f e)
 value-back flags Text width bytes f e small said = absurd said
 
--- the text of field f, read, is its bytes
-pub field-back : (f : ℕ) (bytes : List ℕ) → length bytes ≡ (fieldOf f) .width → Small bytes → Said ((groupOf (groupNumber f)) .flags) ((fieldOf f) .notation) bytes
-    → fieldBytes f (fieldText f bytes) ≡ some bytes
-field-back f bytes e small said = value-back ((groupOf (groupNumber f)) .flags) ((fieldOf f) .notation) ((fieldOf f) .width) bytes (field-fits f) e small said
+-- the text of a field, read, is its bytes
+pub field-back : (kind n : ℕ) (bytes : List ℕ) → length bytes ≡ (fieldOf kind n) .width → Bytes bytes
+    → Said ((groupOf kind) .flags) ((fieldOf kind n) .notation) bytes → fieldBytes kind n (fieldText kind n bytes) ≡ some bytes
+field-back kind n bytes e small said =
+    value-back ((groupOf kind) .flags) ((fieldOf kind n) .notation) ((fieldOf kind n) .width) bytes (field-fits kind n) e small said

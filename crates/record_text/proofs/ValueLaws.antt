@@ -1,17 +1,23 @@
 -- Laws of values read: each joins what a call of a notation answered to the bytes that the definition gives.
+--     field-fits                          every field has a width that its notation can have
+--     number-read, number-unread, number-width        a number
+--     oem-width, string-read, string-unread, string-too-long      a string of a fixed width
+--     bytes-read, mac-read, mac-unread, address-read, address-unread      bytes
+--     pci-read, pci-unread, word-read, word-unread    PCI addresses and words
+--     flags-row, flags-none               the names of a kind's flags
 -- Assumes nothing.
 use mathlib.Core.Path.{_≡_, refl, sym, ap, _∙_}
 use mathlib.Core.List.{List, [], _∷_, _++_, append-assoc}
 use mathlib.Core.Option.{Option, none, some, Option·map}
-use mathlib.Core.Bool.{Bool, true, false}
-use Prim.Native.Nat.{ℕ, zero, suc, _+_, _-_, _/_, _%_, _^_, _≤_, _<_}
+use mathlib.Core.Bool.{Bool, true, false, _&&_}
+use Prim.Native.Nat.{ℕ, zero, suc, _+_, _-_, _^_, _≤_, _<_}
 use native.Mathlib.Nat.{zero-add, suc-add}
 use native.Mathlib.Omega.{arith}
-use borrow.Author.Tests.{lt-ltb, le-ltb, lt-leb, le-leb, leb-true, ne-eqb}
+use borrow.Author.Tests.{lt-ltb, le-ltb, lt-leb, le-leb, leb-true, ne-eqb, eqb-true}
 use lib.ListN.{length, take, drop, getD, length-append, List·getD-eq-default}
-use lib.Dec.{ltb, leb}
 use native.Mathlib.Decide.{decLt}
 use Rattle.octets.specs.Octets.{le16, le64, zeros, write}
+use Rattle.octets.proofs.CountingLaws.{clash}
 use Rattle.octets.proofs.TestLaws.{and-both}
 use Rattle.octets.proofs.WriteLaws.{length-zeros, write-front}
 use Rattle.text.specs.Split.{each}
@@ -21,7 +27,6 @@ use Rattle.notation.specs.declared.number.Number.{Number}
 use Rattle.notation.specs.declared.number.Number.the-variants.{Value as Is, Bad as NoNumber}
 use Rattle.notation.specs.Escape.{answerOf, contentOf}
 use Rattle.notation.proofs.EscapeLaws.{decoded-bad, decoded-length}
-use Rattle.notation.specs.declared.escape.Decoded.{Decoded}
 use Rattle.notation.specs.declared.escape.Decoded.the-variants.{Length, Bad as NoString}
 use Rattle.notation.specs.Address.{addressRead}
 use Rattle.notation.specs.declared.address.AddressRead.{AddressRead}
@@ -30,10 +35,10 @@ use Rattle.notation.specs.declared.mac.MacRead.{MacRead}
 use Rattle.notation.specs.Pci.{pciAnswer}
 use Rattle.notation.specs.declared.pci.PciRead.{PciRead}
 use Rattle.notation.specs.declared.pci.PciRead.the-variants.{Word, Bad as NoPci}
-use Rattle.record_text.specs.Fields.{Group, field, groups, oem, groupOf, fieldIn, fieldOf}
+use Rattle.ibft_table.specs.Layout.{Kind, Field, field, initiator, kinds, kindOf}
+use Rattle.record_text.specs.Fields.{Group, groups, oem, firstStructure, kindCount, groupOf, notationIn, placeIn, fieldOf}
 use Rattle.record_text.specs.declared.fields.Notation.{Notation}
-use Rattle.record_text.specs.declared.fields.Notation.the-variants.{Oem, Number as NumberField}
-use Rattle.record_text.specs.declared.fields.Field.{Field as FieldLayout}
+use Rattle.record_text.specs.declared.fields.Notation.the-variants.{Oem, Port, Number as NumberField}
 use Rattle.record_text.specs.Value.{wordByte, filled, numberBytes, fits, valueRead}
 use Rattle.record_text.specs.declared.value.Value.{Value}
 
@@ -95,36 +100,67 @@ number-width width e one two =
         let z : _≡_ {A = ℕ} 0 1 = cc in absurd (omega arith)
 
 -- the width of an OEM field
+pub port-width : (notation : Notation) (width : ℕ) → notation ≡ Port → fits notation width ≡ true → 2 ≡ width
+unfolding fits
+port-width notation width e h = sym (eqb-true width 2 (rw e at h))
+
 pub oem-width : (notation : Notation) (width : ℕ) → notation ≡ Oem → fits notation width ≡ true → width ≤ 16
 unfolding fits
 oem-width notation width e h = leb-true width 16 (sym (ap (λ (n : Notation). fits n width) e) ∙ h)
 
--- every field has a width that its notation can have: a test over all fields
-fit : FieldLayout → Bool
-fit field = fits (field .notation) (field .width)
-
+-- every field has a width that its notation can have: a test over all fields, each a notation and a place
 pub each-at {ℓ} : {A : Type ℓ} (p : A → Bool) (xs : List A) (n : ℕ) (d : A) → each p xs ≡ true → p d ≡ true → p (getD xs n d) ≡ true
 unfolding each
 each-at p [] n d all last = last
 each-at p (x ∷ xs) zero d all last = and-both (p x) (each p xs) all .0
 each-at p (x ∷ xs) (suc n) d all last = each-at p xs n d (and-both (p x) (each p xs) all .1) last
 
-groupFits : Group → Bool
-groupFits group = each fit (group .fields)
+unfoldable pub eachField : (Notation → Field → Bool) → List Notation → List Field → Bool
+eachField p [] [] = true
+eachField p [] (y ∷ ys) = false
+eachField p (x ∷ xs) [] = false
+eachField p (x ∷ xs) (y ∷ ys) = p x y && eachField p xs ys
 
-groups-fit : each groupFits groups ≡ true
-unfolding each groupFits fit fits
-groups-fit = refl
+pub each-field-at : (p : Notation → Field → Bool) (xs : List Notation) (ys : List Field) (n : ℕ) (d : Notation) (e : Field)
+    → eachField p xs ys ≡ true → p d e ≡ true → p (getD xs n d) (getD ys n e) ≡ true
+unfolding eachField
+each-field-at p [] [] n d e all last = last
+each-field-at p [] (y ∷ ys) n d e all last = clash all refl
+each-field-at p (x ∷ xs) [] n d e all last = clash all refl
+each-field-at p (x ∷ xs) (y ∷ ys) zero d e all last = and-both (p x y) (eachField p xs ys) all .0
+each-field-at p (x ∷ xs) (y ∷ ys) (suc n) d e all last = each-field-at p xs ys n d e (and-both (p x y) (eachField p xs ys) all .1) last
 
-oem-fits : groupFits oem ≡ true
-unfolding each groupFits fit fits
-oem-fits = refl
+-- a test of every field of a group: field 0 stands for those past the last
+unfoldable pub groupPasses : (Notation → Field → Bool) → Group → Bool
+groupPasses p group = p (getD (group .notations) 0 Oem) (getD (group .layout) 0 (field 0 6)) && eachField p (group .notations) (group .layout)
 
-pub field-fits : (f : ℕ) → fits ((fieldOf f) .notation) ((fieldOf f) .width) ≡ true
-unfolding fieldOf fieldIn groupOf groupFits fit fits
-field-fits f =
-    let all : each fit ((groupOf (f / 16)) .fields) ≡ true = each-at groupFits groups (f / 16) oem groups-fit oem-fits in
-    each-at fit ((groupOf (f / 16)) .fields) (f % 16) _ all (each-at fit ((groupOf (f / 16)) .fields) 0 (field Oem 0 6) all refl)
+pub group-field : (p : Notation → Field → Bool) (group : Group) (n : ℕ) → groupPasses p group ≡ true
+    → p (notationIn group n) (placeIn group n) ≡ true
+unfolding groupPasses notationIn placeIn
+group-field p group n all =
+    let both = and-both (p (getD (group .notations) 0 Oem) (getD (group .layout) 0 (field 0 6))) _ all in
+    each-field-at p (group .notations) (group .layout) n _ _ (both .1) (both .0)
+
+-- .. of every kind
+pub every-field : (p : Notation → Field → Bool) → each (groupPasses p) groups ≡ true → groupPasses p oem ≡ true
+    → (kind n : ℕ) → p (notationIn (groupOf kind) n) (placeIn (groupOf kind) n) ≡ true
+unfolding groupOf
+every-field p all past kind n = group-field p (groupOf kind) n (each-at (groupPasses p) groups kind oem all past)
+
+-- .. of the kind of every slot
+pub slot-field : (p : Kind → Notation → Field → Bool) → each (λ (kind : Kind). groupPasses (p kind) (groupOf (kind .id))) kinds ≡ true
+    → (k n : ℕ) → p (kindOf k) (notationIn (groupOf ((kindOf k) .id)) n) (placeIn (groupOf ((kindOf k) .id)) n) ≡ true
+unfolding kindOf each
+slot-field p all k n =
+    let passes : Kind → Bool = λ (kind : Kind). groupPasses (p kind) (groupOf (kind .id)) in
+    group-field (p (kindOf k)) (groupOf ((kindOf k) .id)) n (each-at passes kinds k initiator all (and-both (passes initiator) _ all .0))
+
+fit : Notation → Field → Bool
+fit notation place = fits notation (place .width)
+
+pub field-fits : (kind n : ℕ) → fits ((fieldOf kind n) .notation) ((fieldOf kind n) .width) ≡ true
+unfolding each eachField groupPasses fieldOf fit fits
+field-fits kind n = every-field fit refl refl kind n
 
 -- ---- bytes
 
@@ -171,17 +207,15 @@ pci-unread o e = ap ofPci e ∙ of-pci o
 
 -- ---- flags
 
--- the flags' names of group m, where g is m; groups that are no structure's have none
-pub flags-row : (m g : ℕ) → g ≡ m → (groupOf m) .flags ≡ (groupOf g) .flags
-flags-row m g e = ap (λ (k : ℕ). (groupOf k) .flags) (sym e)
+-- the names of the flags of kind m, where the kind is m; kinds that are no structure's have none
+pub flags-row : (m kind : ℕ) → kind ≡ m → (groupOf m) .flags ≡ (groupOf kind) .flags
+flags-row m kind e = ap (λ (k : ℕ). (groupOf k) .flags) (sym e)
 
-pub flags-none : (g : ℕ) → (g ≡ 2 → ⊥) → (g ≡ 3 → ⊥) → (g ≡ 4 → ⊥) → (g ≡ 5 → ⊥) → (g ≡ 6 → ⊥) → [] ≡ (groupOf g) .flags
+pub flags-none : (kind : ℕ) → (firstStructure ≤ kind → kindCount ≤ kind) → [] ≡ (groupOf kind) .flags
 unfolding groupOf
-flags-none zero a b c d e = refl
-flags-none (suc zero) a b c d e = refl
-flags-none (suc (suc k)) a b c d e =
-    let past : 7 ≤ suc (suc k) = omega arith in
-    sym (ap (λ (x : Group). x .flags) (List·getD-eq-default groups oem past))
+flags-none zero past = refl
+flags-none (suc zero) past = refl
+flags-none (suc (suc k)) past = sym (ap (λ (x : Group). x .flags) (List·getD-eq-default groups oem (past (omega arith))))
 
 -- ---- words
 

@@ -25,10 +25,10 @@ use Rattle.notation.specs.Escape.{stringOf}
 use Rattle.notation.specs.Mac.{macForm, every, readMac}
 use Rattle.notation.specs.Pci.{readPci}
 use Rattle.notation.specs.Address.{exactly, filled as gapFilled, bytesOf, decimal, fourBytes, groups, side, gapAt, withGap, withoutGap, readSix, mapped, mappedFour, holds, colon, dot, readAddress}
-use Rattle.record_text.specs.Fields.{groupOf, groupNumber, fieldOf}
+use Rattle.record_text.specs.Fields.{groupOf, fieldOf}
 use Rattle.record_text.specs.Value.{wordByte, setByte, filled, numberBytes, fits, valueBytes, fieldBytes}
 use Rattle.record_text.specs.declared.fields.Notation.{Notation}
-use Rattle.record_text.specs.declared.fields.Notation.the-variants.{Oem, Mode, Flags, Number, Address, Mac, Pci, Chap, Text}
+use Rattle.record_text.specs.declared.fields.Notation.the-variants.{Oem, Mode, Flags, Number, Port, Address, Mac, Pci, Chap, Text}
 use Rattle.record_text.proofs.ValueLaws.{field-fits}
 
 -- ---- the bytes of each notation
@@ -135,11 +135,13 @@ value-width flags Oem width text b s e = filled-width width (stringOf text) b e
 value-width flags Mode width text b s e = word-width _ text b e ∙ sym (eqb-true width 1 s)
 value-width flags Flags width text b s e = set-width (readWordSet flags text) b e ∙ sym (eqb-true width 1 s)
 value-width flags Number width text b s e = number-width width text b (number-fits width s) e
+value-width flags Port width text b s e = number-width width text b (omega (arith, eqb-true width 2 s)) e
 value-width flags Address width text b s e = address-width text b e ∙ sym (eqb-true width 16 s)
 value-width flags Mac width text b s e = mac-width text b e ∙ sym (eqb-true width 6 s)
 value-width flags Pci width text b s e = mapped-width le16 2 (λ k. refl) (readPci text) b e ∙ sym (eqb-true width 2 s)
 value-width flags Chap width text b s e = word-width _ text b e ∙ sym (eqb-true width 1 s)
 value-width flags Text width text b s e = unread e
 
-pub field-width : (f : ℕ) (text b : List ℕ) → fieldBytes f text ≡ some b → length b ≡ (fieldOf f) .width
-field-width f text b e = value-width ((groupOf (groupNumber f)) .flags) ((fieldOf f) .notation) ((fieldOf f) .width) text b (field-fits f) e
+pub field-width : (kind n : ℕ) (text b : List ℕ) → fieldBytes kind n text ≡ some b → length b ≡ (fieldOf kind n) .width
+field-width kind n text b e =
+    value-width ((groupOf kind) .flags) ((fieldOf kind n) .notation) ((fieldOf kind n) .width) text b (field-fits kind n) e

@@ -29,28 +29,11 @@ use Rattle.notation.specs.Address.{
   isMapped,
   addressText,
 }
-use Rattle.record_text.specs.Fields.{isText, isOem, groupOf, fieldIn, fieldOf, fieldCount, entryOf, nameOf, found, fieldNamed}
+use Rattle.record_text.specs.Fields.{isText, isOem, isAlways, groupOf, fieldCount, plainCount, notationIn, placeIn, isSecret, fieldOf, indexText, nameOf, indexIn, isDigit, found, foundIn, fieldNamed}
 use Rattle.record_text.specs.Value.{wordByte, numberBytes, valueBytes, valueRead, valueText}
-use Rattle.record_text.specs.Enter.{
-  usualFlags,
-  usualPort,
-  blank,
-  blankDraft,
-  placeOf,
-  marked,
-  withValue,
-  withString,
-  reasonOf,
-  plainStep,
-  stringStep,
-  valueStep,
-  fieldStep,
-  saysNothing,
-  lineStep,
-  linesFrom,
-  enteredFrom,
-}
+use Rattle.record_text.specs.Enter.{saysNothing, lineFound, isMarked, marksBelow, noted, linesNoted, noneNoted, slotOf, groupNumber, counted, hasImage, withPort, withUsual, usualTo, blank, blankDraft, givenAt, placeOf, entryOf, seated, present, withValue, withString, reasonOf, plainStep, stringStep, valueStep, hasSlot, fieldStep, lineStep, linesFrom, enteredFrom}
+use Rattle.record_text.specs.Tell.{kindNumber, indexHeld, structureField, recordField, isTold, lineWith, hiddenLine, lineOf, groupText, recordText, ifAccepted, tableText}
 
 unfoldable pub computing : ℕ
-unfolding of-text of-build-rules bind hexDigit below digit valueFrom numeral number digitByte digitsWithin digits padded bytesOf escaped numbered stringOf byteText textAt stringText macForm every readMac macText pciForm deviceFunction readPci pciText short bytesOfPieces decimal fourBytes group lastGroup groups side gapAt withGap withoutGap readSix readAddress zeroRun longest groupsText fourText sixText isMapped addressText isText isOem groupOf fieldIn fieldOf fieldCount entryOf nameOf found fieldNamed wordByte numberBytes valueBytes valueRead valueText usualFlags usualPort blank blankDraft placeOf marked withValue withString reasonOf plainStep stringStep valueStep fieldStep saysNothing lineStep linesFrom enteredFrom
+unfolding of-text of-build-rules bind hexDigit below digit valueFrom numeral number digitByte digitsWithin digits padded bytesOf escaped numbered stringOf byteText textAt stringText macForm every readMac macText pciForm deviceFunction readPci pciText short bytesOfPieces decimal fourBytes group lastGroup groups side gapAt withGap withoutGap readSix readAddress zeroRun longest groupsText fourText sixText isMapped addressText isText isOem isAlways groupOf fieldCount plainCount notationIn placeIn isSecret fieldOf indexText nameOf indexIn isDigit found foundIn fieldNamed wordByte numberBytes valueBytes valueRead valueText saysNothing lineFound isMarked marksBelow noted linesNoted noneNoted slotOf groupNumber counted hasImage withPort withUsual usualTo blank blankDraft givenAt placeOf entryOf seated present withValue withString reasonOf plainStep stringStep valueStep hasSlot fieldStep lineStep linesFrom enteredFrom kindNumber indexHeld structureField recordField isTold lineWith hiddenLine lineOf groupText recordText ifAccepted tableText
 computing = 0

@@ -8,9 +8,10 @@ use lib.ListN.{length}
 use Rattle.octets.specs.Octets.{zeros, part}
 use Rattle.text.specs.Put.{ascii}
 use Rattle.text.specs.Split.{join}
-use Rattle.build_rules.specs.RecordRange.{baseSize, namedImage}
-use Rattle.record_text.specs.Enter.{noSuchField, givenBefore, unreadable, tooLong, noRoom, answerOf, enteredFrom}
+use Rattle.build_rules.specs.RecordRange.{largestSize, namedImage, recordGiven}
+use Rattle.record_text.specs.Enter.{noField, noSuchField, givenBefore, unreadable, tooLong, noRoom, tooMany, answerOf, enteredFrom}
 use Rattle.record_text.specs.Computing.{computing}
+use Rattle.record_text.specs.declared.fields.FieldName.{FieldName}
 use Rattle.record_text.specs.declared.enter.Entered.{Entered}
 
 -- lines with a line feed between each two
@@ -23,12 +24,20 @@ record Case : Type 0 where
   text : List ℕ
   answer : Entered
 
--- a text that is read, and how many bytes its strings have; one that is not, why, at which line, and the field that the line names
-reads : ℕ → List ℕ → Case
-reads used t = record { text = t; answer = record { reason = 0; line = 0; field = 0; used = used } }
+-- a text that is read: how many bytes its strings and its range have
+sized : ℕ → ℕ → List ℕ → Case
+sized used size t = record { text = t; answer = record { reason = 0; line = 0; field = noField; used = used; size = size } }
 
-stops : ℕ → ℕ → ℕ → ℕ → List ℕ → Case
-stops reason line field used t = record { text = t; answer = record { reason = reason; line = line; field = field; used = used } }
+-- .. without extras
+reads : ℕ → List ℕ → Case
+reads used t = sized used 421 t
+
+-- one that is not: why, at which line, and the field that the line names
+field : ℕ → ℕ → ℕ → FieldName
+field kind index n = record { kind = kind; index = index; field = n }
+
+stops : ℕ → ℕ → FieldName → ℕ → ℕ → List ℕ → Case
+stops reason line field used size t = record { text = t; answer = record { reason = reason; line = line; field = field; used = used; size = size } }
 
 cases : List Case
 cases =
@@ -36,26 +45,38 @@ cases =
     ∷ reads 0 (text ("# nothing" ∷ "" ∷ "  " ∷ "control single" ∷ "" ∷ []))
     -- blanks at the ends, the carriage return among them
     ∷ reads 0 (9 ∷ (ascii "control   multi" ++ (13 ∷ 10 ∷ ascii "#")))
-    ∷ stops noSuchField 2 0 0 (text ("#" ∷ "nic2.flags valid" ∷ []))
-    ∷ stops noSuchField 1 0 0 (text ("control. single" ∷ []))
-    ∷ stops noSuchField 1 0 0 (text ("nic0 valid" ∷ []))
-    ∷ stops givenBefore 4 16 0 (text ("control single" ∷ "" ∷ "# again" ∷ "control single" ∷ "nic9.flags" ∷ []))
+    ∷ stops noSuchField 2 noField 0 421 (text ("#" ∷ "nic256.flags valid" ∷ []))
+    -- an Index is written as it is told
+    ∷ stops noSuchField 1 noField 0 421 (text ("nic02.flags valid" ∷ []))
+    ∷ stops noSuchField 1 noField 0 421 (text ("nic0x2.flags valid" ∷ []))
+    ∷ stops noSuchField 1 noField 0 421 (text ("nic.flags valid" ∷ []))
+    ∷ stops noSuchField 1 noField 0 421 (text ("initiator0.flags valid" ∷ []))
+    ∷ stops noSuchField 1 noField 0 421 (text ("control. single" ∷ []))
+    ∷ stops noSuchField 1 noField 0 421 (text ("nic0 valid" ∷ []))
+    ∷ stops givenBefore 4 (field 1 0 0) 0 421 (text ("control single" ∷ "" ∷ "# again" ∷ "control single" ∷ "nic256.flags" ∷ []))
     -- no value
-    ∷ stops unreadable 1 16 0 (text ("control" ∷ []))
-    ∷ stops unreadable 1 50 0 (text ("nic0.prefix 256" ∷ []))
-    ∷ stops unreadable 1 37 0 (text ("initiator.name a\\b" ∷ []))
-    ∷ stops tooLong 1 0 0 (text ("oem.id METTA77" ∷ []))
+    ∷ stops unreadable 1 (field 1 0 0) 0 421 (text ("control" ∷ []))
+    ∷ stops unreadable 1 (field 3 0 2) 0 421 (text ("nic0.prefix 256" ∷ []))
+    ∷ stops unreadable 1 (field 2 0 5) 0 421 (text ("initiator.name a\\b" ∷ []))
+    ∷ stops tooLong 1 (field 0 0 0) 0 421 (text ("oem.id METTA77" ∷ []))
     ∷ reads 8 (text ("initiator.name 12345678" ∷ []))
-    ∷ stops noRoom 1 37 0 (text ("initiator.name 123456789" ∷ []))
-    ∷ stops noRoom 2 106 7 (text ("initiator.name 1234567" ∷ "target1.reverse-secret \\x20\\x20" ∷ []))
+    ∷ stops noRoom 1 (field 2 0 5) 0 421 (text ("initiator.name 123456789" ∷ []))
+    ∷ stops noRoom 2 (field 4 1 10) 7 421 (text ("initiator.name 1234567" ∷ "target1.reverse-secret \\x20\\x20" ∷ []))
+    -- extras, in any order; the same line of two of them; a field given twice
+    ∷ sized 3 583 (text ("target9.name abc" ∷ "nic255.prefix 24" ∷ "nic1.prefix 1" ∷ []))
+    ∷ sized 0 627 (text ("nic3.prefix 24" ∷ "nic2.prefix 24" ∷ []))
+    ∷ stops givenBefore 3 (field 3 3 2) 0 627 (text ("nic3.prefix 24" ∷ "nic2.prefix 24" ∷ "nic3.prefix 25" ∷ []))
+    -- a seventh of a kind, at its first line
+    ∷ stops tooMany 7 (field 3 2 8) 0 1039
+    (text ("nic9.vlan 1" ∷ "nic8.vlan 1" ∷ "nic7.vlan 1" ∷ "nic6.vlan 1" ∷ "nic5.vlan 1" ∷ "nic4.vlan 1" ∷ "nic2.vlan 1" ∷ "nic2.vlan 2" ∷ []))
     -- a secret that was hidden is not given
     ∷ reads 6 (text ("target0.chap-name depot7" ∷ "# target0.chap-secret is hidden" ∷ []))
     -- an empty string takes no room
     ∷ reads 8 (text ("initiator.name 12345678" ∷ "target1.reverse-secret \"\"" ∷ []))
     ∷ []
 
-judged : map (λ (c : Case). answerOf (enteredFrom (c .text) (zeros baseSize) (zeros 8))) cases ≡ map (λ (c : Case). c .answer) cases
-unfolding computing text reads stops cases
+judged : map (λ (c : Case). answerOf (enteredFrom (c .text) (zeros largestSize) (zeros 8))) cases ≡ map (λ (c : Case). c .answer) cases
+unfolding computing text sized reads field stops cases
 judged = refl
 
 -- ---- the example of the format
@@ -132,15 +153,15 @@ pieces =
     ∷ piece (namedImage 4) (zeros 5 ++ (3 ∷ (zeros 16 ++ (0xbc ∷ 0x0c ∷ zeros 30))))
     ∷ []
 
-cabinet-answer : answerOf (enteredFrom cabinet (zeros baseSize) (zeros 102)) ≡ record { reason = 0; line = 0; field = 0; used = 102 }
+cabinet-answer : answerOf (enteredFrom cabinet (zeros largestSize) (zeros 102)) ≡ record { reason = 0; line = 0; field = noField; used = 102; size = 421 }
 unfolding computing text cabinet
 cabinet-answer = refl
 
-cabinet-strings : (enteredFrom cabinet (zeros baseSize) (zeros 102)) .draft .strings ≡ strings
+cabinet-strings : (enteredFrom cabinet (zeros largestSize) (zeros 102)) .draft .strings ≡ strings
 unfolding computing text cabinet strings
 cabinet-strings = refl
 
-cabinet-range : map (λ (p : Piece). part ((enteredFrom cabinet (zeros baseSize) (zeros 102)) .draft .range) (p .at) (length (p .bytes))) pieces
+cabinet-range : map (λ (p : Piece). part ((enteredFrom cabinet (zeros largestSize) (zeros 102)) .draft .range) (p .at) (length (p .bytes))) pieces
     ≡ map (λ (p : Piece). p .bytes) pieces
 unfolding computing text cabinet piece mapped pieces
 cabinet-range = refl

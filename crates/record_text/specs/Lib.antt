@@ -7,3 +7,4 @@ pub mod Tell
 pub mod Computing
 pub mod EnterCases
 pub mod TellCases
+pub mod Promises

@@ -1,28 +1,14 @@
 -- Worked tables and the lines they tell, by computation: as one list under one theorem.
 use mathlib.Core.Path.{_≡_, refl}
-use mathlib.Core.Bool.{_&&_}
+use mathlib.Core.Bool.{true, false}
 use mathlib.Core.List.{List, [], _∷_, _++_, map}
-use Prim.Native.Nat.{ℕ, _*_}
+use Prim.Native.Nat.{ℕ}
 use Prim.Native.String.{String}
 use lib.ListN.{take}
-use Rattle.octets.specs.Counting.{tabulate, gather}
 use Rattle.octets.specs.Octets.{le16, zeros, checksum, write}
 use Rattle.text.specs.Put.{ascii}
-use Rattle.text.specs.Computing.{computing as of-text}
-use Rattle.notation.specs.Number.{digitByte, digitsWithin, digits, padded}
-use Rattle.notation.specs.Escape.{byteText, textAt, stringText}
-use Rattle.notation.specs.Address.{zeroRun, longest, groupsText, fourText, sixText, isMapped, addressText}
-use Rattle.notation.specs.Mac.{macText}
-use Rattle.notation.specs.Pci.{pciText}
-use Rattle.ibft_table.specs.Layout.{stringOf}
-use Rattle.ibft_table.specs.Computing.{computing as of-tables}
-use Rattle.record_text.specs.Fields.{isText, groupOf, groupCount, fieldIn, fieldOf, fieldCount, entryOf, nameOf}
-use Rattle.record_text.specs.Value.{valueText}
-use Rattle.record_text.specs.Tell.{structureField, recordField, bytesIn, ifAccepted, bytesOf, isTold, lineWith, lineOf, tellLine, hiddenLine, shownLine, tellHidden}
-
--- all lines of a table
-told : List ℕ → List ℕ
-told t = gather (tellLine t) 0 (16 * groupCount)
+use Rattle.record_text.specs.Tell.{tableText}
+use Rattle.record_text.specs.Computing.{computing}
 
 -- bench case 5, byte for byte: Target 0 alone, flags 1, CHAP name `depot7`, reverse name `7`
 case5 : List ℕ
@@ -51,6 +37,12 @@ nic =
 extra : List ℕ
 extra = changed 4 (230 ∷ []) (write (write nic 50 (20 ∷ [])) 66 (le16 176) ++ (0 ∷ 0 ∷ 4 ∷ 1 ∷ 54 ∷ 0 ∷ 2 ∷ 1 ∷ zeros 48))
 
+-- .. with NICs of Index 200, at 176, and of Index 5, at 280, in extra words
+extras : List ℕ
+extras =
+    changed 4 (le16 382)
+    (write (write nic 50 (22 ∷ [])) 66 (le16 176 ++ le16 280) ++ (0 ∷ 0 ∷ 3 ∷ 1 ∷ 102 ∷ 0 ∷ 200 ∷ 1 ∷ (zeros 98 ++ (3 ∷ 1 ∷ 102 ∷ 0 ∷ 5 ∷ 2 ∷ zeros 96))))
+
 -- case 5 with two secrets: the CHAP secret `t7`, and an empty reverse secret
 secrets : List ℕ
 secrets = changed 114 (2 ∷ 0 ∷ 130 ∷ 0 ∷ []) (changed 122 (0 ∷ 0 ∷ 132 ∷ 0 ∷ []) case5)
@@ -78,10 +70,14 @@ cases =
     ∷ tells nic
     ("control multi" ∷ "nic0.flags valid selected global" ∷ "nic0.prefix 24" ∷ "nic0.dns1 2001:db8::53" ∷ "nic0.vlan 70" ∷ "nic0.mac 02:00:5e:10:00:07"
     ∷ "nic0.pci 00:03.1" ∷ [])
-    -- of an extra target nothing is told
+    -- an extra target, by its Index
     ∷ tells extra
     ("control multi" ∷ "nic0.flags valid selected global" ∷ "nic0.prefix 24" ∷ "nic0.dns1 2001:db8::53" ∷ "nic0.vlan 70" ∷ "nic0.mac 02:00:5e:10:00:07"
-    ∷ "nic0.pci 00:03.1" ∷ [])
+    ∷ "nic0.pci 00:03.1" ∷ "target2.flags valid" ∷ "target2.port 0" ∷ [])
+    -- two extra NICs, the higher Index in the first word: by Index
+    ∷ tells extras
+    ("control multi" ∷ "nic0.flags valid selected global" ∷ "nic0.prefix 24" ∷ "nic0.dns1 2001:db8::53" ∷ "nic0.vlan 70" ∷ "nic0.mac 02:00:5e:10:00:07"
+    ∷ "nic0.pci 00:03.1" ∷ "nic5.flags selected" ∷ "nic200.flags valid" ∷ [])
     -- the same structure as Target 1
     ∷ tells (changed 60 (0 ∷ 0 ∷ 0 ∷ 0 ∷ 72 ∷ 0 ∷ []) (changed 76 (1 ∷ []) case5))
     ("control multi" ∷ "target1.flags valid" ∷ "target1.port 0" ∷ "target1.chap-name depot7" ∷ "target1.reverse-name 7" ∷ [])
@@ -98,23 +94,17 @@ ended : List (List ℕ) → List ℕ
 ended [] = []
 ended (l ∷ ls) = l ++ (10 ∷ ended ls)
 
-all-told : map (λ (c : Case). told (c .table)) cases ≡ map (λ (c : Case). ended (c .text)) cases
-unfolding of-tables of-text digitByte digitsWithin digits padded byteText textAt stringText zeroRun longest groupsText fourText sixText isMapped addressText macText pciText isText groupOf fieldIn fieldOf fieldCount entryOf nameOf valueText structureField recordField bytesIn ifAccepted bytesOf isTold lineWith lineOf tellLine told case5 changed nic extra secrets tells cases ended
+all-told : map (λ (c : Case). tableText false (c .table)) cases ≡ map (λ (c : Case). ended (c .text)) cases
+unfolding computing case5 changed nic extra extras secrets tells cases ended
 all-told = refl
 
 -- with secrets hidden a comment stands in place of each; a table without any is told as ever
-hidden-told : map (λ (t : List ℕ). gather (tellHidden t) 0 (16 * groupCount)) (secrets ∷ case5 ∷ take 132 case5 ∷ [])
+hidden-told : map (tableText true) (secrets ∷ case5 ∷ take 132 case5 ∷ [])
     ≡ ended
     (ascii "control multi" ∷ ascii "target0.flags valid" ∷ ascii "target0.port 0" ∷ ascii "target0.chap-name depot7" ∷ ascii "# target0.chap-secret is hidden"
     ∷ ascii "target0.reverse-name 7" ∷ ascii "# target0.reverse-secret is hidden" ∷ [])
     ∷ ended
     (ascii "control multi" ∷ ascii "target0.flags valid" ∷ ascii "target0.port 0" ∷ ascii "target0.chap-name depot7" ∷ ascii "target0.reverse-name 7" ∷ [])
     ∷ [] ∷ []
-unfolding of-tables of-text digitByte digitsWithin digits padded byteText textAt stringText zeroRun longest groupsText fourText sixText isMapped addressText macText pciText isText groupOf fieldIn fieldOf fieldCount entryOf nameOf valueText structureField recordField bytesIn ifAccepted bytesOf isTold lineWith lineOf hiddenLine shownLine tellHidden case5 changed secrets ended
+unfolding computing case5 changed secrets ended
 hidden-told = refl
-
--- what is hidden is, of all fields, what the layout calls a secret
-hidden-secrets : tabulate (λ (f : ℕ). (fieldOf f) .secret) 0 (16 * groupCount)
-    ≡ tabulate (λ (f : ℕ). isText ((fieldOf f) .notation) && (stringOf (entryOf f)) .secret) 0 (16 * groupCount)
-unfolding of-tables isText groupOf fieldIn fieldOf entryOf
-hidden-secrets = refl

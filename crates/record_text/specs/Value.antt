@@ -16,9 +16,9 @@ use Rattle.notation.specs.Address.{readAddress, addressText}
 use Rattle.notation.specs.Mac.{readMac, macText}
 use Rattle.notation.specs.Pci.{readPci, pciText}
 use Rattle.notation.specs.Escape.{stringOf, stringText}
-use Rattle.record_text.specs.Fields.{groupOf, groupNumber, fieldOf}
+use Rattle.record_text.specs.Fields.{groupOf, fieldOf}
 use Rattle.record_text.specs.declared.fields.Notation.{Notation}
-use Rattle.record_text.specs.declared.fields.Notation.the-variants.{Oem, Mode, Flags, Number, Address, Mac, Pci, Chap, Text}
+use Rattle.record_text.specs.declared.fields.Notation.the-variants.{Oem, Mode, Flags, Number, Port, Address, Mac, Pci, Chap, Text}
 use Rattle.record_text.specs.declared.value.Value.{Value}
 
 -- the words of the login mode and of the CHAP type
@@ -54,6 +54,7 @@ valueBytes flags Oem width text = filled width (stringOf text)
 valueBytes flags Mode width text = wordByte modes text
 valueBytes flags Flags width text = setByte (readWordSet flags text)
 valueBytes flags Number width text = numberBytes width text
+valueBytes flags Port width text = numberBytes width text
 valueBytes flags Address width text = readAddress text
 valueBytes flags Mac width text = readMac text
 valueBytes flags Pci width text = Option·map le16 (readPci text)
@@ -66,6 +67,7 @@ fits Oem width = leb width 16
 fits Mode width = eqb width 1
 fits Flags width = eqb width 1
 fits Number width = eqb width 1 || eqb width 2 || eqb width 8
+fits Port width = eqb width 2
 fits Address width = eqb width 16
 fits Mac width = eqb width 6
 fits Pci width = eqb width 2
@@ -77,9 +79,9 @@ unfoldable pub valueRead : Option (List ℕ) → Value
 valueRead none = record { ok = false; bytes = zeros 16 }
 valueRead (some bytes) = record { ok = true; bytes = bytes ++ zeros (16 - length bytes) }
 
--- the bytes of field f with this text as its value
-abbrev pub fieldBytes : ℕ → List ℕ → Option (List ℕ)
-fieldBytes f text = valueBytes ((groupOf (groupNumber f)) .flags) ((fieldOf f) .notation) ((fieldOf f) .width) text
+-- the bytes of field n of a kind with this text as its value
+abbrev pub fieldBytes : ℕ → ℕ → List ℕ → Option (List ℕ)
+fieldBytes kind n text = valueBytes ((groupOf kind) .flags) ((fieldOf kind n) .notation) ((fieldOf kind n) .width) text
 
 -- ---- from bytes to text
 
@@ -93,12 +95,13 @@ valueText flags Oem bytes = oemText bytes
 valueText flags Mode bytes = wordAt modes (byte bytes 0)
 valueText flags Flags bytes = wordSetText flags (byte bytes 0)
 valueText flags Number bytes = digits 10 (word64 bytes 0)
+valueText flags Port bytes = digits 10 (word64 bytes 0)
 valueText flags Address bytes = addressText (bytesAt bytes 0 16)
 valueText flags Mac bytes = macText bytes
 valueText flags Pci bytes = pciText (word16 bytes 0)
 valueText flags Chap bytes = wordAt chapTypes (byte bytes 0)
 valueText flags Text bytes = stringText bytes
 
--- the text of field f with these bytes
-abbrev pub fieldText : ℕ → List ℕ → List ℕ
-fieldText f bytes = valueText ((groupOf (groupNumber f)) .flags) ((fieldOf f) .notation) bytes
+-- the text of field n of a kind with these bytes
+abbrev pub fieldText : ℕ → ℕ → List ℕ → List ℕ
+fieldText kind n bytes = valueText ((groupOf kind) .flags) ((fieldOf kind n) .notation) bytes

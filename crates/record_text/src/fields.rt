@@ -1,17 +1,31 @@
-// The fields of a record by number. The groups `oem` and `control` are numbered 0 and 1, the structure of the named slot k is group
-// 2 + k. Field n of group g has the number 16 g + n.
+// The fields of a record text, as data. A field is named by the kind of its group, the group's Index where the kind has one, and its number in
+// the group. Where a structure's fields stand, and which of its strings are secrets, is the table's layout (ibft_table); here is added what
+// they are called and how their values are written.
+use build_rules::range::FLAGS_AT;
+use build_rules::range::OEM_AT;
+use ibft_table::layout::FieldShape;
+use ibft_table::layout::field_of;
+use ibft_table::layout::first_entry;
+use ibft_table::layout::may_share;
+use notation::number::Number;
+use notation::number::put_decimal;
+use notation::number::read_number;
 use octets::read::part;
 use text::put::put_char;
 use text::put::put_text;
 use text::split::index_of;
+use text::split::same;
 use text::words::word_at;
 use text::words::word_number;
 ghost use mathlib.Core.Path.{_≡_};
-ghost use Prim.Native.Nat.{_+_, _-_, _≤_, _<_};
+ghost use Prim.Native.Nat.{_+_, _≤_, _<_};
+ghost use lib.ListN.{length};
 ghost use Rattle.text.specs.Put.{Puts};
+ghost use Rattle.text.specs.Split.{before, same};
 ghost use Rattle.text.specs.Words.{wordAt, wordNumber};
-ghost use Rattle.ibft_table.specs.Layout.{firstEntry};
-ghost use Rattle.record_text.specs.Fields.{field, always, secret, oem, initiator, nic, target, groupOf, fieldIn, fieldOf, fieldCount, isText, isOem, entryOf, dotted, nameOf, found, fieldNamed};
+ghost use Rattle.notation.specs.Number.{answer, digits};
+ghost use Rattle.ibft_table.specs.Shapes.{fieldShape};
+ghost use Rattle.record_text.specs.Fields.{oem, initiator, nic, target, groupOf, fieldCount, plainCount, isText, isOem, isAlways, notationIn, placeIn, isSecret, fieldOf, indexText, dotted, nameOf, indexIn, isDigit, foundIn, fieldNamed};
 
 // How a field's value is written.
 pub enum Notation {
@@ -19,6 +33,7 @@ pub enum Notation {
     Mode,
     Flags,
     Number,
+    Port,
     Address,
     Mac,
     Pci,
@@ -27,21 +42,57 @@ pub enum Notation {
 }
 
 // A field: how its value is written; where it stands, for a structure's field in the structure's image, else in the record range; how
-// many bytes it has there (a string's are its two words); whether it is told where it is zero, too; whether it is a secret, which can be
-// hidden.
-pub struct Field {
+// many bytes it has there (a string's are its two words).
+pub struct FieldLayout {
     pub notation: Notation,
     pub at: u16,
     pub width: u8,
-    pub always: bool,
-    pub secret: bool,
+}
+
+// A field by name: the kind of its group, the group's Index (0 where the kind has none), its number in the group.
+pub struct FieldName {
+    pub kind: u8,
+    pub index: u8,
+    pub field: u8,
 }
 
 // What a name names.
 pub enum Found {
-    Number(u8),
+    Named(FieldName),
     Nothing,
 }
+
+// ---- kinds of group: the header's is 0, every other has its structure's ID
+
+pub(crate) const KIND_COUNT: u8 = 5;
+
+// The first kind that is a structure of its own, and the first whose groups have an Index.
+pub(crate) const FIRST_STRUCTURE: u8 = 2;
+
+pub(crate) const FIRST_INDEXED: u8 = 3;
+
+// Their names, the names of the fields of each, and the names of the structures' flags.
+const GROUP_NAMES: [u8; 32] = *b"oem control initiator nic target";
+
+const OEM_NAMES: [u8; 8] = *b"id table";
+
+const CONTROL_NAMES: [u8; 0] = *b"";
+
+const INITIATOR_NAMES: [u8; 35] = *b"flags isns slp radius1 radius2 name";
+
+const NIC_NAMES: [u8; 68] =
+    *b"flags address prefix origin gateway dns1 dns2 dhcp vlan mac pci host";
+
+const TARGET_NAMES: [u8; 86] =
+    *b"flags address port lun chap nic name chap-name chap-secret reverse-name reverse-secret";
+
+pub const INITIATOR_FLAGS: [u8; 14] = *b"valid selected";
+
+pub const NIC_FLAGS: [u8; 21] = *b"valid selected global";
+
+pub const TARGET_FLAGS: [u8; 39] = *b"valid selected radius-chap radius-rchap";
+
+// ---- notations
 
 // Is it a string, which stands in the strings range?
 pub fn is_text(notation: Notation) -> bool
@@ -52,6 +103,7 @@ pub fn is_text(notation: Notation) -> bool
         Notation::Mode => false,
         Notation::Flags => false,
         Notation::Number => false,
+        Notation::Port => false,
         Notation::Address => false,
         Notation::Mac => false,
         Notation::Pci => false,
@@ -69,6 +121,7 @@ pub fn is_oem(notation: Notation) -> bool
         Notation::Mode => false,
         Notation::Flags => false,
         Notation::Number => false,
+        Notation::Port => false,
         Notation::Address => false,
         Notation::Mac => false,
         Notation::Pci => false,
@@ -77,224 +130,268 @@ pub fn is_oem(notation: Notation) -> bool
     }
 }
 
-// A field that is told where it is not zero.
-fn layout(notation: Notation, at: u16, width: u8) -> Field
-    ensures { λ r. ⌜ r ≡ field notation at width ⌝ }
+// Is such a field told where it is zero, too?
+pub fn is_always(notation: Notation) -> bool
+    ensures { λ r. ⌜ r ≡ isAlways notation ⌝ }
 {
-    Field {
-        notation,
-        at,
-        width,
-        always: false,
-        secret: false,
+    match notation {
+        Notation::Oem => false,
+        Notation::Mode => true,
+        Notation::Flags => true,
+        Notation::Number => false,
+        Notation::Port => true,
+        Notation::Address => false,
+        Notation::Mac => false,
+        Notation::Pci => false,
+        Notation::Chap => false,
+        Notation::Text => false,
     }
 }
 
-// A field that is told always.
-fn told(notation: Notation, at: u16, width: u8) -> Field
-    ensures { λ r. ⌜ r ≡ always notation at width ⌝ }
+// How the value of an initiator's field n is written; past the last, as its first's.
+fn initiator_notation(n: u8) -> Notation
+    ensures { λ r. ⌜ r ≡ notationIn initiator n ⌝ }
 {
-    Field {
-        notation,
-        at,
-        width,
-        always: true,
-        secret: false,
+    match n {
+        1 => Notation::Address,
+        2 => Notation::Address,
+        3 => Notation::Address,
+        4 => Notation::Address,
+        5 => Notation::Text,
+        _ => Notation::Flags,
     }
 }
 
-// A string that is a secret.
-fn secret(at: u16) -> Field
-    ensures { λ r. ⌜ r ≡ secret at ⌝ }
+// .. of a NIC's.
+fn nic_notation(n: u8) -> Notation
+    ensures { λ r. ⌜ r ≡ notationIn nic n ⌝ }
 {
-    Field {
-        notation: Notation::Text,
-        at,
-        width: 4,
-        always: false,
-        secret: true,
+    match n {
+        1 => Notation::Address,
+        2 => Notation::Number,
+        3 => Notation::Number,
+        4 => Notation::Address,
+        5 => Notation::Address,
+        6 => Notation::Address,
+        7 => Notation::Address,
+        8 => Notation::Number,
+        9 => Notation::Mac,
+        10 => Notation::Pci,
+        11 => Notation::Text,
+        _ => Notation::Flags,
     }
 }
+
+// .. of a target's.
+fn target_notation(n: u8) -> Notation
+    ensures { λ r. ⌜ r ≡ notationIn target n ⌝ }
+{
+    match n {
+        1 => Notation::Address,
+        2 => Notation::Port,
+        3 => Notation::Number,
+        4 => Notation::Chap,
+        5 => Notation::Number,
+        6 => Notation::Text,
+        7 => Notation::Text,
+        8 => Notation::Text,
+        9 => Notation::Text,
+        10 => Notation::Text,
+        _ => Notation::Flags,
+    }
+}
+
+// .. of a kind's.
+fn notation_of(kind: u8, n: u8) -> Notation
+    ensures { λ r. ⌜ r ≡ notationIn (groupOf kind) n ⌝ }
+{
+    match kind {
+        1 => Notation::Mode,
+        2 => initiator_notation(n),
+        3 => nic_notation(n),
+        4 => target_notation(n),
+        _ => Notation::Oem,
+    }
+}
+
+// ---- fields
+
+// Where the header's fields stand in the record range.
+const OEM_ID: FieldShape = FieldShape {
+    at: OEM_AT,
+    width: 6,
+};
+
+const OEM_TABLE_ID: FieldShape = FieldShape {
+    at: OEM_AT + 6,
+    width: 8,
+};
 
 // Field n of the header; past the last, the first.
-fn oem_field(n: u8) -> Field
-    ensures { λ r. ⌜ r ≡ fieldIn oem n ⌝ }
+fn oem_place(n: u8) -> FieldShape
+    ensures { λ r. ⌜ r ≡ fieldShape (placeIn oem n) ⌝ }
 {
     match n {
-        1 => layout(Notation::Oem, 6, 8),
-        _ => layout(Notation::Oem, 0, 6),
+        1 => OEM_TABLE_ID,
+        _ => OEM_ID,
     }
 }
 
-// .. of an initiator.
-fn initiator_field(n: u8) -> Field
-    ensures { λ r. ⌜ r ≡ fieldIn initiator n ⌝ }
+// Where field n of a kind stands. (Slots 0, 1 and 2 have a structure of each kind.)
+fn place_of(kind: u8, n: u8) -> FieldShape
+    ensures { λ r. ⌜ r ≡ fieldShape (placeIn (groupOf kind) n) ⌝ }
 {
-    match n {
-        1 => layout(Notation::Address, 6, 16),
-        2 => layout(Notation::Address, 22, 16),
-        3 => layout(Notation::Address, 38, 16),
-        4 => layout(Notation::Address, 54, 16),
-        5 => layout(Notation::Text, 70, 4),
-        _ => told(Notation::Flags, 5, 1),
+    match kind {
+        1 => FieldShape {
+            at: FLAGS_AT,
+            width: 1,
+        },
+        2 => field_of(0, n),
+        3 => field_of(1, n),
+        4 => field_of(2, n),
+        _ => oem_place(n),
     }
 }
 
-// .. of a NIC.
-fn nic_field(n: u8) -> Field
-    ensures { λ r. ⌜ r ≡ fieldIn nic n ⌝ }
+// Field n of a kind; past the last, its first.
+pub fn field_at(kind: u8, n: u8) -> FieldLayout
+    ensures { λ r. ⌜ r ≡ fieldOf kind n ⌝ }
 {
-    match n {
-        1 => layout(Notation::Address, 6, 16),
-        2 => layout(Notation::Number, 22, 1),
-        3 => layout(Notation::Number, 23, 1),
-        4 => layout(Notation::Address, 24, 16),
-        5 => layout(Notation::Address, 40, 16),
-        6 => layout(Notation::Address, 56, 16),
-        7 => layout(Notation::Address, 72, 16),
-        8 => layout(Notation::Number, 88, 2),
-        9 => layout(Notation::Mac, 90, 6),
-        10 => layout(Notation::Pci, 96, 2),
-        11 => layout(Notation::Text, 98, 4),
-        _ => told(Notation::Flags, 5, 1),
+    let notation = notation_of(kind, n);
+    let place = place_of(kind, n);
+    FieldLayout {
+        notation,
+        at: place.at,
+        width: place.width,
     }
 }
 
-// .. of a target.
-fn target_field(n: u8) -> Field
-    ensures { λ r. ⌜ r ≡ fieldIn target n ⌝ }
+// How many fields a kind has; past the last kind, the header's.
+pub fn field_count(kind: u8) -> u8
+    ensures { λ r. ⌜ (r ≡ fieldCount kind) × (r ≤ 12) ⌝ }
 {
-    match n {
-        1 => layout(Notation::Address, 6, 16),
-        2 => told(Notation::Number, 22, 2),
-        3 => layout(Notation::Number, 24, 8),
-        4 => layout(Notation::Chap, 32, 1),
-        5 => layout(Notation::Number, 33, 1),
-        6 => layout(Notation::Text, 34, 4),
-        7 => layout(Notation::Text, 38, 4),
-        8 => secret(42),
-        9 => layout(Notation::Text, 46, 4),
-        10 => secret(50),
-        _ => told(Notation::Flags, 5, 1),
-    }
-}
-
-// The field of number f.
-pub fn field_at(f: u8) -> Field
-    ensures { λ r. ⌜ r ≡ fieldOf f ⌝ }
-{
-    match f / 16 {
-        1 => told(Notation::Mode, 14, 1),
-        2 => initiator_field(f % 16),
-        3 => nic_field(f % 16),
-        4 => target_field(f % 16),
-        5 => nic_field(f % 16),
-        6 => target_field(f % 16),
-        _ => oem_field(f % 16),
-    }
-}
-
-// How many fields group g has; past the last group, the header's.
-pub fn field_count(g: u8) -> u8
-    ensures { λ r. ⌜ r ≡ fieldCount g ⌝ }
-{
-    match g {
+    match kind {
         1 => 1,
         2 => 6,
         3 => 12,
         4 => 11,
-        5 => 12,
-        6 => 11,
         _ => 2,
     }
 }
 
-// How many of them are no strings.
-fn plain_count(g: u8) -> u8
-    ensures { λ r. ⌜ r ≡ (groupOf g) .plain ⌝ }
+// How many of them are no strings: these stand before the strings.
+pub fn plain_count(kind: u8) -> u8
+    ensures { λ r. ⌜ (r ≡ plainCount kind) × (r ≤ 12) ⌝ }
 {
-    match g {
+    match kind {
         1 => 1,
         2 => 5,
         3 => 11,
         4 => 6,
-        5 => 11,
-        6 => 6,
         _ => 2,
     }
 }
 
-// The number of the first entry of group g's structure. (Past the last group the layout has six NICs, of one string each, then targets;
-// the groups before the structures have no strings.)
-fn first_entry(g: u8) -> u8
-    requires { ⌜ g < 16 ⌝ }
-    ensures { λ r. ⌜ (r ≡ firstEntry (g - 2)) × (r ≤ 29) ⌝ }
+// Is field n of a kind a secret, as the layout says of that string? (Slots 0, 1 and 2 have a structure of each kind.)
+pub fn is_secret(kind: u8, n: u8) -> bool
+    ensures { λ r. ⌜ r ≡ isSecret kind n ⌝ }
 {
-    if g < 3 {
-        return 0;
+    let plain = plain_count(kind);
+    if n < plain {
+        return false;
     }
-    match g {
-        3 => 1,
-        4 => 2,
-        5 => 7,
-        6 => 8,
-        14 => 24,
-        15 => 29,
-        _ => g + 6,
+    if field_count(kind) <= n {
+        return false;
+    }
+    !may_share(first_entry(kind - FIRST_STRUCTURE) + (n - plain) as u16)
+}
+
+// ---- names
+
+// The number of a name among those of a kind's fields; how many they are where it is none of them.
+fn number_in(kind: u8, name: &[u8]) -> usize
+    ensures { λ r. ⌜ r ≡ wordNumber ((groupOf kind) .names) (now (name .entry)) ⌝ }
+{
+    match kind {
+        1 => word_number(&CONTROL_NAMES, name),
+        2 => word_number(&INITIATOR_NAMES, name),
+        3 => word_number(&NIC_NAMES, name),
+        4 => word_number(&TARGET_NAMES, name),
+        _ => word_number(&OEM_NAMES, name),
     }
 }
 
-// The entry that string field f is.
-pub fn entry_of(f: u8) -> u8
-    ensures { λ r. ⌜ r ≡ entryOf f ⌝ }
+// Is the number written as it is told: decimal, without a zero in front?
+fn is_told(n: u64, text: &[u8]) -> bool
+    requires { ⌜ n < 256 ⌝ }
+    ensures { λ r. ⌜ r ≡ same (digits 10 n) (now (text .entry)) ⌝ }
 {
-    let first = first_entry(f / 16);
-    let plain = plain_count(f / 16);
-    if f % 16 < plain {
-        return first;
-    }
-    first + (f % 16 - plain)
+    let mut room = [0u8; 4];
+    let end = put_decimal(&mut room, 0, n);
+    same(part(&room, 0, end), text)
 }
 
-// The number of a name among those of group g's fields; how many they are where it is none of them.
-fn number_in(g: usize, name: &[u8]) -> usize
-    ensures { λ r. ⌜ r ≡ wordNumber ((groupOf g) .names) (now (name .entry)) ⌝ }
+// The Index that stands behind a kind's name.
+fn index_in(kind: u8, text: &[u8]) -> Number
+    ensures { λ r. ⌜ r ≡ answer (indexIn kind (now (text .entry))) ⌝ }
 {
-    match g {
-        1 => word_number(b"", name),
-        2 => word_number(b"flags isns slp radius1 radius2 name", name),
-        3 => word_number(
-            b"flags address prefix origin gateway dns1 dns2 dhcp vlan mac pci host",
-            name,
-        ),
-        4 => word_number(
-            b"flags address port lun chap nic name chap-name chap-secret reverse-name reverse-secret",
-            name,
-        ),
-        5 => word_number(
-            b"flags address prefix origin gateway dns1 dns2 dhcp vlan mac pci host",
-            name,
-        ),
-        6 => word_number(
-            b"flags address port lun chap nic name chap-name chap-secret reverse-name reverse-secret",
-            name,
-        ),
-        _ => word_number(b"id table", name),
+    if kind < FIRST_INDEXED {
+        if text.len() == 0 {
+            return Number::Value(0);
+        }
+        return Number::Bad;
     }
+    let Number::Value(n) = read_number(255, text) else {
+        return Number::Bad;
+    };
+    if is_told(n, text) {
+        return Number::Value(n);
+    }
+    Number::Bad
 }
 
-// Field n of group g, where there is one.
-fn found_in(g: usize, n: usize) -> Found
-    ensures { λ r. ⌜ r ≡ found g n ⌝ }
+// A decimal digit?
+fn is_digit(b: u8) -> bool
+    ensures { λ r. ⌜ r ≡ isDigit b ⌝ }
 {
-    if 7 <= g {
+    (b'0' <= b) & (b <= b'9')
+}
+
+// How many bytes stand before the first decimal digit.
+fn before_digit(s: &[u8]) -> usize
+    ensures { λ r. ⌜ (r ≡ before isDigit (now (s .entry))) × (r ≤ length (now (s .entry))) ⌝ }
+{
+    let mut i = 0;
+    while i < s.len() {
+        if is_digit(s[i]) {
+            return i;
+        }
+        i += 1;
+    }
+    i
+}
+
+// The field of this name in the group of this name.
+fn found_in(group: &[u8], own: &[u8]) -> Found
+    ensures { λ r. ⌜ r ≡ foundIn (now (group .entry)) (now (own .entry)) ⌝ }
+{
+    let letters = before_digit(group);
+    let kind = word_number(&GROUP_NAMES, &group[..letters]);
+    if KIND_COUNT as usize <= kind {
         return Found::Nothing;
     }
-    let count = field_count(g as u8) as usize;
-    if count <= n {
+    let n = number_in(kind as u8, own);
+    if field_count(kind as u8) as usize <= n {
         return Found::Nothing;
     }
-    Found::Number((16 * g + n) as u8)
+    match index_in(kind as u8, part(group, letters, group.len())) {
+        Number::Value(index) => Found::Named(FieldName {
+            kind: kind as u8,
+            index: index as u8,
+            field: n as u8,
+        }),
+        Number::Bad => Found::Nothing,
+    }
 }
 
 // The field that a name names.
@@ -305,12 +402,7 @@ pub fn field_named(name: &[u8]) -> Found
     if dot + 1 == name.len() {
         return Found::Nothing;
     }
-    let g = word_number(
-        b"oem control initiator nic0 target0 nic1 target1",
-        &name[..dot],
-    );
-    let n = number_in(g, part(name, dot + 1, name.len()));
-    found_in(g, n)
+    found_in(&name[..dot], part(name, dot + 1, name.len()))
 }
 
 // Puts word n of the list with a dot before it; nothing where it has no bytes.
@@ -325,49 +417,34 @@ fn put_dotted(room: &mut [u8], at: usize, list: &[u8], n: usize) -> usize
     put_text(room, place, word)
 }
 
-// Puts the name that field n of group g has in the group.
-fn put_own_name(room: &mut [u8], at: usize, g: u8, n: usize) -> usize
-    ensures { λ r. ⌜ Puts (now (room .entry)) (now (room .exit)) at r (dotted (wordAt ((groupOf g) .names) n)) ⌝ }
+// Puts the name that field n of a kind has in its group.
+fn put_own_name(room: &mut [u8], at: usize, kind: u8, n: usize) -> usize
+    ensures { λ r. ⌜ Puts (now (room .entry)) (now (room .exit)) at r (dotted (wordAt ((groupOf kind) .names) n)) ⌝ }
 {
-    match g {
-        1 => put_dotted(room, at, b"", n),
-        2 => put_dotted(room, at, b"flags isns slp radius1 radius2 name", n),
-        3 => put_dotted(
-            room,
-            at,
-            b"flags address prefix origin gateway dns1 dns2 dhcp vlan mac pci host",
-            n,
-        ),
-        4 => put_dotted(
-            room,
-            at,
-            b"flags address port lun chap nic name chap-name chap-secret reverse-name reverse-secret",
-            n,
-        ),
-        5 => put_dotted(
-            room,
-            at,
-            b"flags address prefix origin gateway dns1 dns2 dhcp vlan mac pci host",
-            n,
-        ),
-        6 => put_dotted(
-            room,
-            at,
-            b"flags address port lun chap nic name chap-name chap-secret reverse-name reverse-secret",
-            n,
-        ),
-        _ => put_dotted(room, at, b"id table", n),
+    match kind {
+        1 => put_dotted(room, at, &CONTROL_NAMES, n),
+        2 => put_dotted(room, at, &INITIATOR_NAMES, n),
+        3 => put_dotted(room, at, &NIC_NAMES, n),
+        4 => put_dotted(room, at, &TARGET_NAMES, n),
+        _ => put_dotted(room, at, &OEM_NAMES, n),
     }
 }
 
-// Puts the name of field f; answers the place behind it.
-pub fn put_name(room: &mut [u8], at: usize, f: u8) -> usize
-    ensures { λ r. ⌜ Puts (now (room .entry)) (now (room .exit)) at r (nameOf f) ⌝ }
+// Puts the Index of a group; nothing where its kind has none.
+fn put_index(room: &mut [u8], at: usize, kind: u8, index: u8) -> usize
+    ensures { λ r. ⌜ Puts (now (room .entry)) (now (room .exit)) at r (indexText kind index) ⌝ }
 {
-    let group = word_at(
-        b"oem control initiator nic0 target0 nic1 target1",
-        (f / 16) as usize,
-    );
-    let place = put_text(room, at, group);
-    put_own_name(room, place, f / 16, (f % 16) as usize)
+    if kind < FIRST_INDEXED {
+        return put_text(room, at, b"");
+    }
+    put_decimal(room, at, index as u64)
+}
+
+// Puts the name of a field; answers the place behind it.
+pub fn put_name(room: &mut [u8], at: usize, f: FieldName) -> usize
+    ensures { λ r. ⌜ Puts (now (room .entry)) (now (room .exit)) at r (nameOf (f .kind) (f .index) (f .field)) ⌝ }
+{
+    let kind = put_text(room, at, word_at(&GROUP_NAMES, f.kind as usize));
+    let index = put_index(room, kind, f.kind, f.index);
+    put_own_name(room, index, f.kind, f.field as usize)
 }

@@ -1,5 +1,8 @@
 // The value of a field, from text to the bytes that it has in a record, and back.
+use crate::fields::INITIATOR_FLAGS;
+use crate::fields::NIC_FLAGS;
 use crate::fields::Notation;
+use crate::fields::TARGET_FLAGS;
 use crate::fields::field_at;
 use notation::address::read_address;
 use notation::escape::Decoded;
@@ -250,30 +253,29 @@ fn set_value(set: WordSet) -> Value
     }
 }
 
-// The flags of a structure of group g.
-fn flags_value(g: u8, text: &[u8]) -> Value
-    ensures { λ r. ⌜ r ≡ valueRead (setByte (readWordSet ((groupOf g) .flags) (now (text .entry)))) ⌝ }
+// The flags of a kind.
+fn flags_value(kind: u8, text: &[u8]) -> Value
+    ensures { λ r. ⌜ r ≡ valueRead (setByte (readWordSet ((groupOf kind) .flags) (now (text .entry)))) ⌝ }
 {
-    match g {
-        2 => set_value(read_word_set(b"valid selected", text)),
-        3 => set_value(read_word_set(b"valid selected global", text)),
-        4 => set_value(read_word_set(b"valid selected radius-chap radius-rchap", text)),
-        5 => set_value(read_word_set(b"valid selected global", text)),
-        6 => set_value(read_word_set(b"valid selected radius-chap radius-rchap", text)),
+    match kind {
+        2 => set_value(read_word_set(&INITIATOR_FLAGS, text)),
+        3 => set_value(read_word_set(&NIC_FLAGS, text)),
+        4 => set_value(read_word_set(&TARGET_FLAGS, text)),
         _ => set_value(read_word_set(b"", text)),
     }
 }
 
-// The value of a field of group g that is written so and has so many bytes.
-fn value_as(notation: Notation, width: u8, g: u8, text: &[u8]) -> Value
+// The value of a kind's field that is written so and has so many bytes.
+fn value_as(notation: Notation, width: u8, kind: u8, text: &[u8]) -> Value
     requires { ⌜ fits notation width ≡ true ⌝ }
-    ensures { λ r. ⌜ r ≡ valueRead (valueBytes ((groupOf g) .flags) notation width (now (text .entry))) ⌝ }
+    ensures { λ r. ⌜ r ≡ valueRead (valueBytes ((groupOf kind) .flags) notation width (now (text .entry))) ⌝ }
 {
     match notation {
         Notation::Oem => oem_value(width, text),
         Notation::Mode => mode_value(text),
-        Notation::Flags => flags_value(g, text),
+        Notation::Flags => flags_value(kind, text),
         Notation::Number => number_value(width, text),
+        Notation::Port => short_number(text),
         Notation::Address => address_value(text),
         Notation::Mac => mac_value(text),
         Notation::Pci => pci_value(text),
@@ -282,12 +284,12 @@ fn value_as(notation: Notation, width: u8, g: u8, text: &[u8]) -> Value
     }
 }
 
-// The value of field f with this text; a string, which stands in the strings range, has none here.
-pub fn read_value(f: u8, text: &[u8]) -> Value
-    ensures { λ r. ⌜ r ≡ valueRead (fieldBytes f (now (text .entry))) ⌝ }
+// The value of field n of a kind with this text; a string, which stands in the strings range, has none here.
+pub fn read_value(kind: u8, n: u8, text: &[u8]) -> Value
+    ensures { λ r. ⌜ r ≡ valueRead (fieldBytes kind n (now (text .entry))) ⌝ }
 {
-    let field = field_at(f);
+    let field = field_at(kind, n);
     let notation = field.notation;
     let width = field.width;
-    value_as(notation, width, f / 16, text)
+    value_as(notation, width, kind, text)
 }

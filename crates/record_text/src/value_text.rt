@@ -1,5 +1,8 @@
 // The text of a field's value, put into room.
+use crate::fields::INITIATOR_FLAGS;
+use crate::fields::NIC_FLAGS;
 use crate::fields::Notation;
+use crate::fields::TARGET_FLAGS;
 use crate::fields::field_at;
 use notation::address::put_address;
 use notation::escape::put_string_text;
@@ -41,29 +44,28 @@ fn put_chap(room: &mut [u8], at: usize, chap: u8) -> usize
     put_text(room, at, word_at(b"none one-way mutual", chap as usize))
 }
 
-// The flags of a structure of group g.
-fn put_flags(room: &mut [u8], at: usize, g: u8, flags: u8) -> usize
-    ensures { λ r. ⌜ Puts (now (room .entry)) (now (room .exit)) at r (wordSetText ((groupOf g) .flags) flags) ⌝ }
+// The flags of a kind.
+fn put_flags(room: &mut [u8], at: usize, kind: u8, flags: u8) -> usize
+    ensures { λ r. ⌜ Puts (now (room .entry)) (now (room .exit)) at r (wordSetText ((groupOf kind) .flags) flags) ⌝ }
 {
-    match g {
-        2 => put_word_set(room, at, b"valid selected", flags),
-        3 => put_word_set(room, at, b"valid selected global", flags),
-        4 => put_word_set(room, at, b"valid selected radius-chap radius-rchap", flags),
-        5 => put_word_set(room, at, b"valid selected global", flags),
-        6 => put_word_set(room, at, b"valid selected radius-chap radius-rchap", flags),
+    match kind {
+        2 => put_word_set(room, at, &INITIATOR_FLAGS, flags),
+        3 => put_word_set(room, at, &NIC_FLAGS, flags),
+        4 => put_word_set(room, at, &TARGET_FLAGS, flags),
         _ => put_word_set(room, at, b"", flags),
     }
 }
 
-// The value of a field of group g that is written so.
-fn put_as(room: &mut [u8], at: usize, notation: Notation, g: u8, bytes: &[u8]) -> usize
-    ensures { λ r. ⌜ Puts (now (room .entry)) (now (room .exit)) at r (valueText ((groupOf g) .flags) notation (now (bytes .entry))) ⌝ }
+// The value of a kind's field that is written so.
+fn put_as(room: &mut [u8], at: usize, notation: Notation, kind: u8, bytes: &[u8]) -> usize
+    ensures { λ r. ⌜ Puts (now (room .entry)) (now (room .exit)) at r (valueText ((groupOf kind) .flags) notation (now (bytes .entry))) ⌝ }
 {
     match notation {
         Notation::Oem => put_oem(room, at, bytes),
         Notation::Mode => put_mode(room, at, byte_at(bytes, 0)),
-        Notation::Flags => put_flags(room, at, g, byte_at(bytes, 0)),
+        Notation::Flags => put_flags(room, at, kind, byte_at(bytes, 0)),
         Notation::Number => put_decimal(room, at, u64_at(bytes, 0)),
+        Notation::Port => put_decimal(room, at, u64_at(bytes, 0)),
         Notation::Address => put_address(room, at, bytes),
         Notation::Mac => put_mac(room, at, bytes),
         Notation::Pci => put_pci(room, at, u16_at(bytes, 0)),
@@ -72,11 +74,11 @@ fn put_as(room: &mut [u8], at: usize, notation: Notation, g: u8, bytes: &[u8]) -
     }
 }
 
-// Puts the value of field f that has these bytes.
-pub fn put_value(room: &mut [u8], at: usize, f: u8, bytes: &[u8]) -> usize
-    ensures { λ r. ⌜ Puts (now (room .entry)) (now (room .exit)) at r (fieldText f (now (bytes .entry))) ⌝ }
+// Puts the value of field n of a kind that has these bytes.
+pub fn put_value(room: &mut [u8], at: usize, kind: u8, n: u8, bytes: &[u8]) -> usize
+    ensures { λ r. ⌜ Puts (now (room .entry)) (now (room .exit)) at r (fieldText kind n (now (bytes .entry))) ⌝ }
 {
-    let field = field_at(f);
+    let field = field_at(kind, n);
     let notation = field.notation;
-    put_as(room, at, notation, f / 16, bytes)
+    put_as(room, at, notation, kind, bytes)
 }

@@ -6,9 +6,10 @@ use mathlib.Core.List.{List, [], _∷_, _++_}
 use Prim.Native.Nat.{ℕ, _+_, _≤_, _<_, min}
 use native.Mathlib.Decide.{decLe}
 use native.Mathlib.Omega.{arith}
-use lib.ListN.{length, length-append}
+use lib.ListN.{length, take, drop, length-append}
+use lib.Seq.{take-append-seam}
 use Rattle.octets.specs.Octets.{write}
-use Rattle.octets.proofs.WriteLaws.{length-write, write-next, write-past, write-cut, write-nothing}
+use Rattle.octets.proofs.WriteLaws.{length-write, write-next, write-past, write-cut, write-nothing, write-front}
 use Rattle.text.specs.Put.{behind, Puts}
 
 -- nothing put, where the place lies in the room
@@ -49,3 +50,9 @@ puts-same {a} {b} {at} {m} {xs} {ys} p e =
       bytes = p .bytes ∙ ap (write a at) e;
       end = omega (arith, p .end, ap length e);
     }
+
+-- what was put at the front of the room, where it fits
+pub puts-front : {a b : List ℕ} {m : ℕ} {xs : List ℕ} → Puts a b 0 m xs → length xs ≤ length a → take m b ≡ xs
+puts-front {a} {b} {m} {xs} p fits =
+    let all : m ≡ length xs = omega (arith, p .end) in
+    rw (p .bytes, all, write-front a xs fits) (take-append-seam xs (drop (length xs) a))

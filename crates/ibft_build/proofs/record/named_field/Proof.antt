@@ -2,22 +2,18 @@
 use mathlib.Core.Path.{ap}
 use native.Mathlib.Omega.{arith}
 use Rattle.ibft_table.specs.declared.layout.StringShape.{StringShape}
-use Rattle.ibft_table.proofs.LayoutLaws.{owner-named}
 use Rattle.ibft_build.proofs.RecordLaws.{string-low}
 use borrow.Author.Needs.{needs}
 use Rattle.ibft_build.proofs.record.named_field.Statement.{statement}
 use Rattle.ibft_build.proofs.record.named_field.Tie as tie
 
-named-image-requires : tie.Need-named-image-requires
-named-image-requires c κs = omega (arith, owner-named (c .before .before .args .n) (omega arith))
-
 add-result : tie.Need-add-result
 add-result c =
-    let n = c .before .before .before .args .n in
+    let n = c .before .before .before .before .args .n in
     omega (arith, string-low n (omega arith), ap (λ (s : StringShape). s .at) (c .before .before .string-of .ensures))
 
 returns : tie.Need-returns
-returns c = rw (c .named-image .ensures .0, c .before .owner-of .ensures, c .before .before .string-of .ensures)
+returns c = rw (c .image-at .ensures .0, c .before .owner-of .ensures, c .before .before .string-of .ensures)
 
 pub named-field-spec : {M : Type 1} → statement M
-named-field-spec = tie.close (tie.spec (search needs) (search needs) named-image-requires add-result returns)
+named-field-spec = tie.close (tie.spec (search needs) (search needs) (search needs) add-result returns)

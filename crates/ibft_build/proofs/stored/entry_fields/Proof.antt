@@ -6,7 +6,7 @@ use lib.ListN.{length, length-set}
 use Rattle.ibft_table.specs.Layout.{entryCount, namedEntries}
 use Rattle.ibft_build.specs.Planning.{fieldGiven, entryFields}
 use Rattle.ibft_build.proofs.ListLaws.{Filled, filled-none, filled-more, filled-done}
-use Rattle.ibft_build.proofs.RecordLaws.{field-named, field-small, entry-limit-least}
+use Rattle.ibft_build.proofs.RecordLaws.{field-small, entry-limit-least}
 use Rattle.ibft_build.proofs.EntryLaws.{limit-most, field-on, field-past}
 use borrow.Author.Needs.{needs}
 use Rattle.ibft_build.proofs.stored.entry_fields.Statement.{statement}
@@ -34,7 +34,7 @@ loop-again c =
     let least = entry-limit-least (c .before .before .before .before .args .range .now) in (
       omega arith,
       simp length-set (l .inv .1),
-      filled-more _ (l .fields) (l .n) (l .inv .2) (omega arith) (c .named-field .result) (c .named-field .ensures ∙ field-named _ _ (omega arith) ∙ field-on _ _ (omega arith)),
+      filled-more _ (l .fields) (l .n) (l .inv .2) (omega arith) (c .named-field .result) (c .named-field .ensures ∙ field-on _ _ (omega arith)),
     )
 
 loop2-holds : tie.Need-loop2-holds Inv-loop μ-loop Inv-loop2 μ-loop2

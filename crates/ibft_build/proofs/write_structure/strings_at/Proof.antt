@@ -10,8 +10,8 @@ use Rattle.ibft_build.proofs.write_structure.strings_at.Tie as tie
 
 returns : tie.Need-returns
 returns c =
-    ap (λ (s : StringShape). s .at) (c .string-of .ensures) ∙ ap (λ (n : ℕ). (stringOf n) .at) (c .before .first-entry .ensures .0)
+    ap (λ (s : StringShape). s .at) (c .string-of .ensures) ∙ ap (λ (n : ℕ). (stringOf n) .at) (c .before .first-entry .ensures)
     ∙ strings-first (c .before .before .args .k) (c .before .before .pre)
 
 pub strings-at-spec : {M : Type 1} → statement M
-strings-at-spec = tie.close (tie.spec (search needs) (search needs) (search needs) returns)
+strings-at-spec = tie.close (tie.spec (search needs) (search needs) returns)

@@ -1,29 +1,23 @@
--- `plain_count` meets its contract, group by group. Assumes nothing.
-use mathlib.Core.Path.{_≡_, sym, ap}
-use Prim.Native.Nat.{ℕ}
+-- `plain_count` meets its contract, kind by kind. Assumes nothing.
+use mathlib.Core.Path.{refl}
 use Rattle.ibft_table.proofs.LayoutLaws.{last-arm}
-use Rattle.record_text.specs.Fields.{Group, groupOf}
-use Rattle.record_text.proofs.FieldsLaws.{group-past}
+use Rattle.record_text.specs.Fields.{groupOf, fieldCount, plainCount}
+use Rattle.record_text.proofs.FieldsLaws.{row, plain-past}
+use borrow.Author.Needs.{needs}
 use Rattle.record_text.proofs.fields.plain_count.Statement.{statement}
 use Rattle.record_text.proofs.fields.plain_count.Tie as tie
 
--- of group m, where g is m
-row : (m g : ℕ) → g ≡ m → (groupOf m) .plain ≡ (groupOf g) .plain
-row m g e = ap (λ (k : ℕ). (groupOf k) .plain) (sym e)
-
-rest : tie.Need-returns-7
-unfolding groupOf
-rest c = last-arm (λ (k : ℕ). (groupOf k) .plain) 6 _ (c .match .rest) (λ h. ap (λ (x : Group). x .plain) (group-past _ h))
+rest : tie.Need-returns-5
+unfolding plainCount fieldCount groupOf
+rest c = (last-arm plainCount 4 _ (c .match .rest) (λ h. plain-past _ h), search needs)
 
 pub plain-count-spec : {M : Type 1} → statement M
-unfolding groupOf
+unfolding plainCount fieldCount groupOf
 plain-count-spec =
     tie.close
     (tie.spec
-    (λ c. row 1 _ (c .match .keys1))
-    (λ c. row 2 _ (c .match .keys2))
-    (λ c. row 3 _ (c .match .keys3))
-    (λ c. row 4 _ (c .match .keys4))
-    (λ c. row 5 _ (c .match .keys5))
-    (λ c. row 6 _ (c .match .keys6))
+    (λ c. (row plainCount 1 _ _ refl (c .match .keys1), search needs))
+    (λ c. (row plainCount 2 _ _ refl (c .match .keys2), search needs))
+    (λ c. (row plainCount 3 _ _ refl (c .match .keys3), search needs))
+    (λ c. (row plainCount 4 _ _ refl (c .match .keys4), search needs))
     rest)

@@ -8,11 +8,7 @@ use Rattle.record_text.proofs.tell.put_hidden.Tie as tie
 
 returns : tie.Need-returns
 unfolding hiddenLine tabulate
-returns c =
-    let words = c .before .before in
-    let name = words .before .before .before .before .before in
-    let mark = name .before .before .before .before in
-    puts-append (mark .put-text .ensures) (puts-append (name .put-name .ensures) (words .put-text2 .ensures))
+returns c = puts-append (c .before .before .before .before .before .before .before .before .before .before .before .put-text .ensures) (puts-append (c .before .before .before .before .before .before .before .put-name .ensures) (c .before .before .put-text2 .ensures))
 
 pub put-hidden-spec : {M : Type 1} → statement M
 put-hidden-spec = tie.close (tie.spec (search needs) (search needs) (search needs) (search needs) (search needs) (search needs) returns)

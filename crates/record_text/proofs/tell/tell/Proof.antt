@@ -1,0 +1,16 @@
+-- `tell` meets its contract: the check, then the text. Assumes nothing.
+use mathlib.Core.Path.{sym, _∙_}
+use Rattle.text.proofs.PutLaws.{puts-same}
+use Rattle.record_text.proofs.TellLaws.{text-accepted, text-refused}
+use borrow.Author.Needs.{needs}
+use Rattle.record_text.proofs.tell.tell.Statement.{statement}
+use Rattle.record_text.proofs.tell.tell.Tie as tie
+
+returns : tie.Need-returns
+returns c = puts-same (c .before .before .put-record .ensures) (text-accepted _ _ _ (c .before .before .before .before .before .before .check .ensures .verdict-is) (c .before .before .before .before .enum-told .given .1))
+
+returns-2 : tie.Need-returns-2
+returns-2 c = puts-same (c .before .before .put-text .ensures) (text-refused _ _ _ (c .before .before .before .before .before .before .before .check .ensures .verdict-is) _ (c .before .before .before .before .before .enum-told2 .given .1))
+
+pub tell-spec : {M : Type 1} → statement M
+tell-spec = tie.close (tie.spec (search needs) (search needs) (search needs) (search needs) (search needs) (search needs) (search needs) returns (search needs) returns-2)
