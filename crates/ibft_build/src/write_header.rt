@@ -3,11 +3,13 @@ use crate::record::extra_nics;
 use crate::record::extra_targets;
 use crate::starts::structure_start;
 use build_rules::range::FLAGS_AT;
+use build_rules::range::OEM_AT;
 use ibft_table::control::Control;
 use ibft_table::header::Header;
 use ibft_table::layout::EXTRA_NICS;
 use ibft_table::layout::EXTRA_TARGETS;
 use ibft_table::layout::NAMED_COUNT;
+use ibft_table::layout::OEM_ID_AT;
 use octets::read::byte_at;
 use octets::read::part;
 use octets::write::put_bytes;
@@ -21,6 +23,13 @@ ghost use Rattle.octets.specs.Octets.{write};
 ghost use Rattle.ibft_table.specs.Layout.{slotCount, mostWords};
 ghost use Rattle.ibft_build.specs.Planning.{Whole, extrasGiven, structureEnds};
 ghost use Rattle.ibft_build.specs.Writing.{headerStart, headerWith, controlFront, startWord, controlWith};
+
+// Where the OEM fields stand in the range, how long they are together, where they stand in the header.
+const OEM_FROM: usize = OEM_AT as usize;
+
+const OEM_SIZE: usize = FLAGS_AT as usize - OEM_AT as usize;
+
+const OEM_TO: usize = OEM_ID_AT as usize;
 
 // Where Control has the words of the named slots, and those of the extras.
 const WORDS_AT: u16 = Control::WORDS_AT - Control::AT;
@@ -52,8 +61,8 @@ pub(crate) fn put_header(header: &mut [u8], range: &[u8], size: u32)
 {
     let start = header_start(size);
     put_bytes(header, 0, &start);
-    let oem = part(range, 0, 14);
-    put_bytes(header, 10, oem);
+    let oem = part(range, OEM_FROM, OEM_SIZE);
+    put_bytes(header, OEM_TO, oem);
     put_zeros(header, 24, 24);
 }
 

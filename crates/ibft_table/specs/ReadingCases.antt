@@ -3,11 +3,64 @@ use mathlib.Core.Path.{_≡_, refl}
 use mathlib.Core.List.{List, [], _∷_, _++_, map}
 use Prim.Native.Nat.{ℕ}
 use lib.ListN.{take}
-use Rattle.octets.specs.Octets.{byte, le16, le32, zeros, checksum, write}
-use Rattle.ibft_table.specs.Readings.{targetIn, addressKindOf, addressNumber, structureOf, initiatorOf, nicOf, targetOf, entryOf, viewOf}
+use Rattle.octets.specs.Octets.{byte, word16, word64, bytesAt, le16, le32, zeros, checksum, write}
+use Rattle.ibft_table.specs.Readings.{textAt, initiatorIn, nicIn, targetIn, addressKindOf, addressNumber, structureOf, initiatorOf, nicOf, targetOf, entryOf, viewOf}
+use Rattle.ibft_table.specs.Layout.{Kind, initiator, nic, target, kindField}
 use Rattle.ibft_table.specs.Login.{loginOrderOf}
 use Rattle.ibft_table.specs.Computing.{computing}
 use Rattle.ibft_table.specs.declared.address.AddressKind.the-variants.{Absent, Ipv4Mapped, Other}
+
+-- ---- each field is read where the layout has it, whatever the bytes
+
+at : Kind → ℕ → ℕ
+at kind n = (kindField kind n) .at
+
+initiator-places : (p : List ℕ) → initiatorIn p
+    ≡ record {
+      flags = byte p (at initiator 0);
+      isns = bytesAt p (at initiator 1) 16;
+      slp = bytesAt p (at initiator 2) 16;
+      radius = bytesAt p (at initiator 3) 16;
+      «second_radius» = bytesAt p (at initiator 4) 16;
+      name = textAt p (at initiator 5);
+    }
+unfolding computing at
+initiator-places p = refl
+
+nic-places : (p : List ℕ) → nicIn p
+    ≡ record {
+      flags = byte p (at nic 0);
+      address = bytesAt p (at nic 1) 16;
+      prefix = byte p (at nic 2);
+      origin = byte p (at nic 3);
+      gateway = bytesAt p (at nic 4) 16;
+      dns = bytesAt p (at nic 5) 16;
+      «second_dns» = bytesAt p (at nic 6) 16;
+      dhcp = bytesAt p (at nic 7) 16;
+      vlan = word16 p (at nic 8);
+      mac = bytesAt p (at nic 9) 6;
+      pci = word16 p (at nic 10);
+      host = textAt p (at nic 11);
+    }
+unfolding computing at
+nic-places p = refl
+
+target-places : (p : List ℕ) → targetIn p
+    ≡ record {
+      flags = byte p (at target 0);
+      address = bytesAt p (at target 1) 16;
+      socket = word16 p (at target 2);
+      lun = word64 p (at target 3);
+      «chap_type» = byte p (at target 4);
+      nic = byte p (at target 5);
+      name = textAt p (at target 6);
+      «chap_name» = textAt p (at target 7);
+      «chap_secret» = textAt p (at target 8);
+      «reverse_name» = textAt p (at target 9);
+      «reverse_secret» = textAt p (at target 10);
+    }
+unfolding computing at
+target-places p = refl
 
 -- ---- addresses
 

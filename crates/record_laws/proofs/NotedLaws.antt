@@ -30,18 +30,18 @@ use Rattle.ibft_table.specs.Check.{checkOf}
 use Rattle.ibft_table.specs.Record.{Record, recordOf}
 use Rattle.ibft_table.specs.declared.verdict.Verdict.the-variants.{Accepted}
 use Rattle.build_rules.specs.Plan.{isPresent}
 use Rattle.record_text.specs.Fields.{firstStructure, firstIndexed, kindCount, fieldCount}
 use Rattle.record_text.specs.Enter.{indexCount, indexMark, isMarked, marksBelow, marksOf, extrasOf, mostOf, saysNothing, noted, linesNoted, namedMarks, noneNoted, slotOf, groupCount, hasSlot, lineFound}
 use Rattle.record_text.specs.Tell.{slotIn, kindNumber, indexHeld, recordField, isTold, lineWith, lineOf, groupText, recordText}
 use Rattle.record_text.specs.Promises.{Bytes}
 use Rattle.record_text.specs.declared.fields.FieldName.{FieldName}
 use Rattle.record_text.specs.declared.fields.Found.the-variants.{Named}
-use Rattle.record_text.proofs.Entered.{nameIn, Held, Seats}
-use Rattle.record_text.proofs.LeadsLaws.{Leads, leads-none, leads-line, leads-gather, leads-end}
-use Rattle.record_text.proofs.MarksLaws.{marked, marked-in, marked-each, marks-below, marks-all, write-mark, write-other}
-use Rattle.record_text.proofs.RankLaws.{slotBy, firstBy, KindSlots, kind-slots, indexBy, heldBy, Rank, held-most, rank-named, rank-present, rank-up, rank-small, slot-rank}
-use Rattle.record_text.proofs.ToldBackLaws.{kind-facts, slot-kind, low-kind, group-known, fields-few, held-present, flags-told, flags-some, told-held}
-use Rattle.record_text.proofs.LineBackLaws.{slot-alone, slot-index, group-indexed, told-with, told-line, told-line-found}
+use Rattle.record_laws.proofs.Entered.{nameIn, Held, Seats}
+use Rattle.record_laws.proofs.LeadsLaws.{Leads, leads-none, leads-line, leads-gather, leads-end}
+use Rattle.record_laws.proofs.MarksLaws.{marked, marked-in, marked-each, marks-below, marks-all, write-mark, write-other}
+use Rattle.record_laws.proofs.RankLaws.{slotBy, firstBy, KindSlots, kind-slots, indexBy, heldBy, Rank, held-most, rank-named, rank-present, rank-up, rank-small, slot-rank}
+use Rattle.record_laws.proofs.ToldBackLaws.{kind-facts, slot-kind, low-kind, group-known, fields-few, held-present, flags-told, flags-some, told-held}
+use Rattle.record_laws.proofs.LineBackLaws.{slot-alone, slot-index, group-indexed, told-with, told-line, told-line-found}
 
 -- ---- a mark that is set
 

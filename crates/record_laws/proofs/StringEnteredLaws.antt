@@ -25,21 +25,21 @@ use Rattle.ibft_table.specs.Record.{recordOf}
 use Rattle.ibft_laws.proofs.LayoutLaws.{entry-fits, slot-entry, slot-entry-owner}
 use Rattle.ibft_laws.proofs.TableLaws.{entry-owner-on, entry-kept, entry-length}
 use Rattle.build_rules.specs.Rebuild.{mark}
 use Rattle.record_text.specs.Fields.{firstStructure, fieldCount, plainCount, fieldOf}
 use Rattle.record_text.specs.Enter.{Draft, groupCount, placeOf, entryOf, present as withSeat, withString}
 use Rattle.record_text.specs.Tell.{kindNumber}
 use Rattle.record_text.specs.declared.fields.FieldLayout.{FieldLayout}
 use Rattle.record_text.specs.declared.fields.FieldName.{FieldName}
-use Rattle.record_text.proofs.Entered.{nameIn}
+use Rattle.record_laws.proofs.Entered.{nameIn}
 use Rattle.record_text.proofs.FieldFitsLaws.{kindIn, stringsIn, seat, kind-fits, word-field}
-use Rattle.record_text.proofs.RangePlaceLaws.{markBy, seatBy, wordsBy, baseBy, mark-by, base-slot, mark-apart, Used, seat-inside, words-inside, mark-inside}
-use Rattle.record_text.proofs.CellLaws.{cellOf, cell, cell-seat, cell-words, cell-mark, cell-keeps}
-use Rattle.record_text.proofs.BlankLaws.{nicsOf, targetsOf}
+use Rattle.record_laws.proofs.RangePlaceLaws.{markBy, seatBy, wordsBy, baseBy, mark-by, base-slot, mark-apart, Used, seat-inside, words-inside, mark-inside}
+use Rattle.record_laws.proofs.CellLaws.{cellOf, cell, cell-seat, cell-words, cell-mark, cell-keeps}
+use Rattle.record_laws.proofs.BlankLaws.{nicsOf, targetsOf}
 use Rattle.record_text.proofs.HeldLaws.{holdsGroup, holds-slot}
-use Rattle.record_text.proofs.LentLaws.{Lent, size-most, used-present, used-sits}
-use Rattle.record_text.proofs.KeptLaws.{StringDrawn, seatHeld, SeatDrawn, kept-self}
-use Rattle.record_text.proofs.DrawnLaws.{entriesTo, more-used, Drawn, Enters, field-below, blank-here}
-use Rattle.record_text.proofs.ValueEnteredLaws.{SeatEntered, kind-is, slot-is, place-slot, slot-entered, plain-no-string}
+use Rattle.record_laws.proofs.LentLaws.{Lent, size-most, used-present, used-sits}
+use Rattle.record_laws.proofs.KeptLaws.{StringFilled, seatHeld, SeatFilled, kept-self}
+use Rattle.record_laws.proofs.FilledLaws.{entriesTo, more-used, Filled, Enters, field-below, blank-here}
+use Rattle.record_laws.proofs.ValueEnteredLaws.{SeatEntered, kind-is, slot-is, place-slot, slot-entered, plain-no-string}
 
 module _ {t marks range strings : List ℕ} (lent : Lent t marks range strings) where
   abbrev nics : ℕ
@@ -48,7 +48,7 @@ module _ {t marks range strings : List ℕ} (lent : Lent t marks range strings) 
   abbrev targets : ℕ
   targets = targetsOf marks
 
-  module _ {g n : ℕ} {d : Draft} (h : g < groupCount) (l : n < fieldCount (kindNumber g)) (drawn : Drawn t marks range strings g n d) where
+  module _ {g n : ℕ} {d : Draft} (h : g < groupCount) (l : n < fieldCount (kindNumber g)) (filled : Filled t marks range strings g n d) where
     abbrev name : FieldName
     name = nameIn (recordOf t) g n
 
@@ -68,16 +68,16 @@ module _ {t marks range strings : List ℕ} (lent : Lent t marks range strings) 
       entry-is : entryOf d name ≡ entry
       unfolding entryOf
       entry-is =
-          let own : n - plainCount (kindNumber g) ≡ m = omega (arith, ap plainCount (kind-is lent h l drawn k hk z there)) in
-          rw (slot-is lent h l drawn k hk z there, own)
+          let own : n - plainCount (kindNumber g) ≡ m = omega (arith, ap plainCount (kind-is lent h l filled k hk z there)) in
+          rw (slot-is lent h l filled k hk z there, own)
 
       words-are : placeOf d name ≡ wordsBy nics k m
       unfolding wordsBy
       words-are =
           let f = word-field k m hk hm in
           let at : (fieldOf (kindNumber g) n) .at ≡ (kindOf k) .stringsAt + 4 * m =
-          ap₂ (λ (q n : ℕ). (fieldOf q n) .at) (kind-is lent h l drawn k hk z there) is ∙ ap (λ (f : FieldLayout). f .at) f in
-          omega (arith, place-slot lent h l drawn k hk z there, at, ap (baseBy nics) (sym z) ∙ base-slot nics k)
+          ap₂ (λ (q n : ℕ). (fieldOf q n) .at) (kind-is lent h l filled k hk z there) is ∙ ap (λ (f : FieldLayout). f .at) f in
+          omega (arith, place-slot lent h l filled k hk z there, at, ap (baseBy nics) (sym z) ∙ base-slot nics k)
 
       used-here : Used nics targets (firstStructure + k)
       used-here = used-present lent k hk there
@@ -93,11 +93,11 @@ module _ {t marks range strings : List ℕ} (lent : Lent t marks range strings) 
       unfolding entriesTo
       entries-are =
           let slot : g - firstStructure ≡ k = omega arith in
-          let q = ap plainCount (kind-is lent h l drawn k hk z there) in
+          let q = ap plainCount (kind-is lent h l filled k hk z there) in
           (rw slot (omega arith), rw slot (omega arith))
 
       used-few : d .used ≤ 255 * entry
-      used-few = omega (arith, drawn .used, entries-are .0)
+      used-few = omega (arith, filled .used, entries-are .0)
 
       -- the range with the mark, and with the words
       abbrev markedRange : List ℕ
@@ -111,13 +111,13 @@ module _ {t marks range strings : List ℕ} (lent : Lent t marks range strings) 
 
       range-is : (withString d name text) .range ≡ after
       unfolding withString
-      range-is = rw (entry-is, mark-by (d .range) nics (drawn .nics-are) entry, words-are)
+      range-is = rw (entry-is, mark-by (d .range) nics (filled .nics-are) entry, words-are)
 
       here : (i : ℕ) → byte ((withString d name text) .range) i ≡ byte after i
       here i = ap (λ (r : List ℕ). byte r i) range-is
 
       entered : SeatEntered t nics g n d name
-      entered = slot-entered lent h l drawn k hk z there
+      entered = slot-entered lent h l filled k hk z there
 
       marked-long : length markedRange ≡ length (d .range)
       marked-long = length-write (withSeat d name) (markBy nics entry) (1 ∷ []) ∙ entered .long
@@ -126,7 +126,7 @@ module _ {t marks range strings : List ℕ} (lent : Lent t marks range strings) 
       words-lie : Lies after (wordsBy nics k m) words
       words-lie i few =
           write-at markedRange (wordsBy nics k m) words i few
-          (omega (arith, marked-long, drawn .long, words-inside nics targets k hk used-here m hm, size-most lent))
+          (omega (arith, marked-long, filled .long, words-inside nics targets k hk used-here m hm, size-most lent))
 
       size-lies : word16 after (wordsBy nics k m) ≡ sizeOf t entry
       size-lies =
@@ -147,11 +147,11 @@ module _ {t marks range strings : List ℕ} (lent : Lent t marks range strings) 
           (mark-apart nics k m hk hm)
           ∙ ap (byte markedRange) (omega arith)
           ∙ write-at (withSeat d name) at (1 ∷ []) 0 (omega arith)
-          (omega (arith, entered .long, drawn .long, mark-inside nics targets k hk used-here m hm, size-most lent))
+          (omega (arith, entered .long, filled .long, mark-inside nics targets k hk used-here m hm, size-most lent))
 
-      string-drawn : StringDrawn t nics k m (withString d name text)
+      string-filled : StringFilled t nics k m (withString d name text)
       unfolding withString
-      string-drawn =
+      string-filled =
           let start : word16 ((withString d name text) .range) (wordsBy nics k m + 2) ≡ d .used =
           ap (λ (r : List ℕ). word16 r (wordsBy nics k m + 2)) range-is ∙ start-lies in
           record {
@@ -161,7 +161,7 @@ module _ {t marks range strings : List ℕ} (lent : Lent t marks range strings) 
             bytes = λ _ i few.
                 ap (λ (s : ℕ). byte (write (d .strings) (d .used) text) (s + i)) start
                 ∙ write-at (d .strings) (d .used) text i (omega (arith, size-is))
-                (omega (arith, size-few, used-few, slot-entry k m hk hm, drawn .room))
+                (omega (arith, size-few, used-few, slot-entry k m hk hm, filled .room))
                 ∙ part-at t (offsetOf t entry) (sizeOf t entry) i few;
           }
 
@@ -186,17 +186,17 @@ module _ {t marks range strings : List ℕ} (lent : Lent t marks range strings) 
           grows = omega arith;
           strings = λ i p. write-before (d .strings) (d .used) text i p;
         };
-        used = omega (arith, drawn .used, entries-are .0, entries-are .1, size-is, size-few);
+        used = omega (arith, filled .used, entries-are .0, entries-are .1, size-is, size-few);
         field = record {
-          plain = λ _ plain. absurd (plain-no-string lent h l drawn plain k m (sym z) is);
+          plain = λ _ plain. absurd (plain-no-string lent h l filled plain k m (sym z) is);
           string = λ k' m' hk' hm' z' is' used.
               let slot : k ≡ k' = omega arith in
               let own : m ≡ m' = omega (arith, ap (λ (k : ℕ). plainCount (kindIn k)) slot) in
-              subst (λ (k' : ℕ). StringDrawn t nics k' m' (withString d name text)) slot
-              (subst (λ (m' : ℕ). StringDrawn t nics k m' (withString d name text)) own string-drawn);
+              subst (λ (k' : ℕ). StringFilled t nics k' m' (withString d name text)) slot
+              (subst (λ (m' : ℕ). StringFilled t nics k m' (withString d name text)) own string-filled);
         };
         sits = λ k' hk' z' sits.
-            let small = field-below lent h l drawn in
+            let small = field-below lent h l filled in
             let at = cell-seat nics k' hk' (used-sits lent k' hk' sits .placed) in
             other-cell (seatBy nics k') (λ e. omega arith) ∙ entered .here k' hk' z';
       }
@@ -206,12 +206,12 @@ module _ {t marks range strings : List ℕ} (lent : Lent t marks range strings) 
     module _ (k : ℕ) (hk : k < slotCount) (z : firstStructure + k ≡ g) where
       -- a string that is missing
       string-missing : (m : ℕ) → m < stringsIn k → n ≡ plainCount (kindIn k) + m → Used nics targets g → holdsEntry t (firstEntry k + m) ≡ false
-          → StringDrawn t nics k m d
+          → StringFilled t nics k m d
       string-missing m hm own used off =
           let here : Used nics targets (firstStructure + k) = subst (Used nics targets) (sym z) used in
           let fits = kind-fits k hk in
           record {
-            marked = blank-here lent h l drawn n (inl refl) (λ low. omega (arith, fits .some)) (λ q e. omega (arith, fits .some)) (markBy nics (firstEntry k + m))
+            marked = blank-here lent h l filled n (inl refl) (λ low. omega (arith, fits .some)) (λ q e. omega (arith, fits .some)) (markBy nics (firstEntry k + m))
                 (mark-inside nics targets k hk here m hm) (cell-mark nics k m hk (here .placed) hm ∙ ap₂ cellOf z (sym own))
                 ∙ sym (ap mark off);
             size = λ on. clash on off;
@@ -220,15 +220,15 @@ module _ {t marks range strings : List ℕ} (lent : Lent t marks range strings) 
           }
 
       -- the seat of a structure that is absent, or has been entered
-      seat-absent : present t k ≡ false → SeatDrawn t nics k d
+      seat-absent : present t k ≡ false → SeatFilled t nics k d
       unfolding seatHeld
       seat-absent off sits =
           elim (decLt 0 n) [
-            | yes p ↦ drawn .seated k hk (omega arith) sits
+            | yes p ↦ filled .seated k hk (omega arith) sits
             | no p ↦ elim (decLt k namedCount) [
               | yes low ↦
                   let used = used-sits lent k hk sits in
-                  blank-here lent h l drawn seat (inr (refl, omega arith)) (λ low. omega arith) (λ q e. omega arith) (seatBy nics k)
+                  blank-here lent h l filled seat (inr (refl, omega arith)) (λ low. omega arith) (λ q e. omega arith) (seatBy nics k)
                   (seat-inside nics targets k hk used) (cell-seat nics k hk (used .placed) ∙ ap (λ (g : ℕ). cellOf g seat) z)
                   ∙ rw (lt-ltb k namedCount low, off)
               | no low ↦ clash (sits (omega arith)) off
@@ -240,15 +240,15 @@ module _ {t marks range strings : List ℕ} (lent : Lent t marks range strings) 
       pub missing-entered : holdsEntry t (firstEntry k + m) ≡ false → Enters t nics targets g n d d
       missing-entered off = record {
         kept = kept-self nics g n d;
-        used = omega (arith, drawn .used, more-used g n);
+        used = omega (arith, filled .used, more-used g n);
         field = record {
-          plain = λ _ plain. absurd (plain-no-string lent h l drawn plain k m (sym z) is);
+          plain = λ _ plain. absurd (plain-no-string lent h l filled plain k m (sym z) is);
           string = λ k' m' hk' hm' z' is' used.
               let slot : k ≡ k' = omega arith in
               let own : m ≡ m' = omega (arith, ap (λ (k : ℕ). plainCount (kindIn k)) slot) in
               string-missing k' hk' (sym z') m' hm' is' used (sym (ap₂ (λ (k m : ℕ). holdsEntry t (firstEntry k + m)) slot own) ∙ off);
         };
-        sits = λ k' hk' z'. drawn .seated k' hk' (omega (arith, kind-fits k hk .some));
+        sits = λ k' hk' z'. filled .seated k' hk' (omega (arith, kind-fits k hk .some));
       }
 
     -- a field of a structure that is absent
@@ -256,7 +256,7 @@ module _ {t marks range strings : List ℕ} (lent : Lent t marks range strings) 
     unfolding holdsIn
     absent-entered k hk z off = record {
       kept = kept-self nics g n d;
-      used = omega (arith, drawn .used, more-used g n);
+      used = omega (arith, filled .used, more-used g n);
       field = record {
         plain = λ on. clash on (ap (holdsGroup t) (sym z) ∙ holds-slot t k ∙ off);
         string = λ k' m' hk' hm' z' is' used.

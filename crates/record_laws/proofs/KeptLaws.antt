@@ -1,7 +1,7 @@
--- What it means that a field of an accepted table is drawn in a draft, and that it stays drawn while fields of other cells are entered.
---     StringDrawn, FieldDrawn, SeatDrawn     what is drawn
+-- What it means that a field of an accepted table is filled in a draft, and that it stays filled while fields of other cells are entered.
+--     StringFilled, FieldFilled, SeatFilled     what is filled
 --     Kept, kept-self                        what entering a field keeps
---     kept-field, kept-seat                  what is drawn stays so
+--     kept-field, kept-seat                  what is filled stays so
 -- Assumes nothing.
 use mathlib.Core.Path.{_≡_, refl, sym, ap, _∙_, subst}
 use mathlib.Core.Bool.{true, cond}
@@ -14,20 +14,20 @@ use Rattle.octets.specs.Octets.{byte, word16}
 use Rattle.ibft_table.specs.Layout.{slotCount, namedCount, firstEntry}
 use Rattle.ibft_table.specs.Table.{startOf, present, sizeOf, offsetOf, holdsEntry}
 use Rattle.build_rules.specs.Rebuild.{mark}
 use Rattle.record_text.specs.Fields.{firstStructure, fieldCount, plainCount, fieldOf}
 use Rattle.record_text.specs.Enter.{Draft, groupCount}
 use Rattle.record_text.specs.Tell.{kindNumber}
 use Rattle.record_text.proofs.FieldFitsLaws.{kindIn, stringsIn, seat, field-few}
-use Rattle.record_text.proofs.RangePlaceLaws.{markBy, seatBy, wordsBy, baseBy, Placed, Used}
-use Rattle.record_text.proofs.CellLaws.{cellOf, cell, cell-seat, cell-field, cell-words, cell-mark}
-use Rattle.record_text.proofs.BlankLaws.{nicsOf, targetsOf}
+use Rattle.record_laws.proofs.RangePlaceLaws.{markBy, seatBy, wordsBy, baseBy, Placed, Used}
+use Rattle.record_laws.proofs.CellLaws.{cellOf, cell, cell-seat, cell-field, cell-words, cell-mark}
+use Rattle.record_laws.proofs.BlankLaws.{nicsOf, targetsOf}
 use Rattle.record_text.proofs.HeldLaws.{holdsGroup, source}
-use Rattle.record_text.proofs.LentLaws.{Lent, used-held, used-sits}
+use Rattle.record_laws.proofs.LentLaws.{Lent, used-held, used-sits}
 
--- ---- what is drawn
+-- ---- what is filled
 
 -- string m of slot k: its mark, its length; from its start on the bytes that the table has
-pub record StringDrawn (t : List ℕ) (nics k m : ℕ) (d : Draft) : Type 0 where
+pub record StringFilled (t : List ℕ) (nics k m : ℕ) (d : Draft) : Type 0 where
   pub marked : byte (d .range) (markBy nics (firstEntry k + m)) ≡ mark (holdsEntry t (firstEntry k + m))
   pub size : holdsEntry t (firstEntry k + m) ≡ true → word16 (d .range) (wordsBy nics k m) ≡ sizeOf t (firstEntry k + m)
   pub inside : holdsEntry t (firstEntry k + m) ≡ true → word16 (d .range) (wordsBy nics k m + 2) + sizeOf t (firstEntry k + m) ≤ d .used
@@ -35,18 +35,18 @@ pub record StringDrawn (t : List ℕ) (nics k m : ℕ) (d : Draft) : Type 0 wher
       → byte (d .strings) (word16 (d .range) (wordsBy nics k m + 2) + i) ≡ byte t (offsetOf t (firstEntry k + m) + i)
 
 -- field n of group g
-pub record FieldDrawn (t : List ℕ) (nics targets g n : ℕ) (d : Draft) : Type 0 where
+pub record FieldFilled (t : List ℕ) (nics targets g n : ℕ) (d : Draft) : Type 0 where
   pub plain : holdsGroup t g ≡ true → n < plainCount (kindNumber g) → (j : ℕ) → j < (fieldOf (kindNumber g) n) .width
       → byte (d .range) (baseBy nics g + ((fieldOf (kindNumber g) n) .at + j)) ≡ byte t (source t g + ((fieldOf (kindNumber g) n) .at + j))
   pub string : (k m : ℕ) → k < slotCount → m < stringsIn k → g ≡ firstStructure + k → n ≡ plainCount (kindIn k) + m → Used nics targets g
-      → StringDrawn t nics k m d
+      → StringFilled t nics k m d
 
 -- the seat of slot k: the mark of a named one, the Index of an extra that is present
 unfoldable pub seatHeld : List ℕ → ℕ → ℕ
 seatHeld t k = cond (ltb k namedCount) (mark (present t k)) (byte t (startOf t k + 4))
 
-abbrev pub SeatDrawn : List ℕ → ℕ → ℕ → Draft → Type 0
-SeatDrawn t nics k d = (namedCount ≤ k → present t k ≡ true) → byte (d .range) (seatBy nics k) ≡ seatHeld t k
+abbrev pub SeatFilled : List ℕ → ℕ → ℕ → Draft → Type 0
+SeatFilled t nics k d = (namedCount ≤ k → present t k ≡ true) → byte (d .range) (seatBy nics k) ≡ seatHeld t k
 
 -- entering field n of group g changes nothing but its cell and the group's seat, and adds to the strings
 pub record Kept (nics g n : ℕ) (d e : Draft) : Type 0 where
@@ -83,8 +83,8 @@ module _ {t marks range strings : List ℕ} (lent : Lent t marks range strings) 
       other-kept i is = kept .range i (λ z. other (sym is ∙ z)) (λ z. omega (arith, field-few g' h))
 
       kept-string : (k m : ℕ) → k < slotCount → m < stringsIn k → g' ≡ firstStructure + k → n' ≡ plainCount (kindIn k) + m → Used nics targets g'
-          → StringDrawn t nics k m d → StringDrawn t nics k m e
-      kept-string k m hk hm is own used drawn =
+          → StringFilled t nics k m d → StringFilled t nics k m e
+      kept-string k m hk hm is own used filled =
           let placed : Placed nics (firstStructure + k) = subst (Placed nics) is (used .placed) in
           let here : cellOf (firstStructure + k) (plainCount (kindIn k) + m) ≡ cellOf g' n' = omega arith in
           let same : (j : ℕ) → j < 4 → byte (e .range) (wordsBy nics k m + j) ≡ byte (d .range) (wordsBy nics k m + j) =
@@ -95,22 +95,22 @@ module _ {t marks range strings : List ℕ} (lent : Lent t marks range strings) 
           ap (byte (e .range)) (omega arith) ∙ same 3 (omega arith) ∙ ap (byte (d .range)) (omega arith) in
           let start : word16 (e .range) (wordsBy nics k m + 2) ≡ word16 (d .range) (wordsBy nics k m + 2) = omega (arith, same 2 (omega arith), last) in
           record {
-            marked = other-kept (markBy nics (firstEntry k + m)) (cell-mark nics k m hk placed hm ∙ here) ∙ drawn .marked;
-            size = λ on. omega (arith, first, same 1 (omega arith), drawn .size on);
-            inside = λ on. omega (arith, start, drawn .inside on, kept .grows);
+            marked = other-kept (markBy nics (firstEntry k + m)) (cell-mark nics k m hk placed hm ∙ here) ∙ filled .marked;
+            size = λ on. omega (arith, first, same 1 (omega arith), filled .size on);
+            inside = λ on. omega (arith, start, filled .inside on, kept .grows);
             bytes = λ on i few.
                 ap (λ (s : ℕ). byte (e .strings) (s + i)) start
-                ∙ kept .strings (word16 (d .range) (wordsBy nics k m + 2) + i) (omega (arith, drawn .inside on))
-                ∙ drawn .bytes on i few;
+                ∙ kept .strings (word16 (d .range) (wordsBy nics k m + 2) + i) (omega (arith, filled .inside on))
+                ∙ filled .bytes on i few;
           }
 
-      pub kept-field : FieldDrawn t nics targets g' n' d → FieldDrawn t nics targets g' n' e
-      kept-field drawn = record {
-        plain = λ on p j m. other-kept _ (cell-field nics g' n' j h (used-held lent g' h on .placed) l m) ∙ drawn .plain on p j m;
-        string = λ k m hk hm is own used. kept-string k m hk hm is own used (drawn .string k m hk hm is own used);
+      pub kept-field : FieldFilled t nics targets g' n' d → FieldFilled t nics targets g' n' e
+      kept-field filled = record {
+        plain = λ on p j m. other-kept _ (cell-field nics g' n' j h (used-held lent g' h on .placed) l m) ∙ filled .plain on p j m;
+        string = λ k m hk hm is own used. kept-string k m hk hm is own used (filled .string k m hk hm is own used);
       }
 
-    pub kept-seat : (k : ℕ) → k < slotCount → (firstStructure + k ≡ g → ⊥) → n < seat → SeatDrawn t nics k d → SeatDrawn t nics k e
-    kept-seat k h other few drawn sits =
+    pub kept-seat : (k : ℕ) → k < slotCount → (firstStructure + k ≡ g → ⊥) → n < seat → SeatFilled t nics k d → SeatFilled t nics k e
+    kept-seat k h other few filled sits =
         let here = cell-seat nics k h (used-sits lent k h sits .placed) in
-        kept .range (seatBy nics k) (λ z. omega arith) (λ z. other (omega arith)) ∙ drawn sits
+        kept .range (seatBy nics k) (λ z. omega arith) (λ z. other (omega arith)) ∙ filled sits

@@ -23,10 +23,10 @@ use Rattle.ibft_table.specs.declared.verdict.Verdict.the-variants.{Accepted}
 use Rattle.ibft_laws.specs.Facts.{Facts}
 use Rattle.ibft_laws.proofs.AcceptedLaws.{accepted-facts}
 use Rattle.ibft_laws.proofs.NumberingLaws.{ExtrasOf, nic-extras, target-extras, extras-most, extras-are, index-least, index-up}
 use Rattle.record_text.specs.Fields.{firstIndexed, kindCount}
 use Rattle.record_text.specs.Enter.{mostOf, indexCount}
 use Rattle.record_text.specs.Promises.{Bytes}
-use Rattle.record_text.proofs.LineBackLaws.{index-small}
+use Rattle.record_laws.proofs.LineBackLaws.{index-small}
 
 -- ---- the slots of a kind
 

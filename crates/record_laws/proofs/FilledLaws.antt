@@ -3,9 +3,9 @@
 -- other, and none is written over.
 --     more-used, field-below     entries are counted upwards; no field has its seat's number
 --     Enters                     what entering one field does
---     Drawn                      what holds of the draft with the fields before field n of group g entered
---     drawn-first, drawn-next    it holds of the blank draft, and with one field more
---     drawn-turn                 and from one group to the next
+--     Filled                      what holds of the draft with the fields before field n of group g entered
+--     filled-first, filled-next    it holds of the blank draft, and with one field more
+--     filled-turn                 and from one group to the next
 --     blank-here                 what is not entered yet is zero, where it has no usual value
 -- Assumes nothing.
 use mathlib.Core.Path.{_≡_, refl, sym, ap, _∙_, subst}
@@ -19,15 +19,15 @@ use Rattle.octets.specs.Counting.{sumTo}
 use Rattle.octets.specs.Octets.{byte}
 use Rattle.ibft_table.specs.Layout.{target, slotCount, firstEntry}
 use Rattle.build_rules.specs.RecordRange.{nicsAt, nicsGiven, targetsGiven}
 use Rattle.record_text.specs.Fields.{firstStructure, fieldCount, plainCount}
 use Rattle.record_text.specs.Enter.{Draft, groupCount, blank, blankDraft}
 use Rattle.record_text.specs.Tell.{kindNumber}
 use Rattle.record_text.proofs.FieldFitsLaws.{kindIn, seat, kind-slot, kind-fits, field-few, field-plain}
-use Rattle.record_text.proofs.RangePlaceLaws.{sizeBy}
-use Rattle.record_text.proofs.CellLaws.{cellOf, cell, cell-counts}
-use Rattle.record_text.proofs.BlankLaws.{nicsOf, targetsOf, blank-long, blank-nics, blank-targets, blank-zero}
-use Rattle.record_text.proofs.LentLaws.{Lent, size-most}
-use Rattle.record_text.proofs.KeptLaws.{FieldDrawn, SeatDrawn, Kept, kept-field, kept-seat}
+use Rattle.record_laws.proofs.RangePlaceLaws.{sizeBy}
+use Rattle.record_laws.proofs.CellLaws.{cellOf, cell, cell-counts}
+use Rattle.record_laws.proofs.BlankLaws.{nicsOf, targetsOf, blank-long, blank-nics, blank-targets, blank-zero}
+use Rattle.record_laws.proofs.LentLaws.{Lent, size-most}
+use Rattle.record_laws.proofs.KeptLaws.{FieldFilled, SeatFilled, Kept, kept-field, kept-seat}
 
 -- how many entries stand before field n of group g
 unfoldable pub entriesTo : ℕ → ℕ → ℕ
@@ -41,11 +41,11 @@ more-used g n = omega arith
 pub record Enters (t : List ℕ) (nics targets g n : ℕ) (d e : Draft) : Type 0 where
   pub kept : Kept nics g n d e
   pub used : e .used ≤ 255 * entriesTo g (suc n)
-  pub field : FieldDrawn t nics targets g n e
-  pub sits : (k : ℕ) → k < slotCount → firstStructure + k ≡ g → SeatDrawn t nics k e
+  pub field : FieldFilled t nics targets g n e
+  pub sits : (k : ℕ) → k < slotCount → firstStructure + k ≡ g → SeatFilled t nics k e
 
--- the draft before field n of group g: the cells from there on are blank, those before are drawn
-pub record Drawn (t marks range strings : List ℕ) (g n : ℕ) (d : Draft) : Type 0 where
+-- the draft before field n of group g: the cells from there on are blank, those before are filled
+pub record Filled (t marks range strings : List ℕ) (g n : ℕ) (d : Draft) : Type 0 where
   pub marks-are : d .marks ≡ marks
   pub long : length (d .range) ≡ length range
   pub room : length (d .strings) ≡ length strings
@@ -55,8 +55,8 @@ pub record Drawn (t marks range strings : List ℕ) (g n : ℕ) (d : Draft) : Ty
   pub later : (i : ℕ) → cellOf g n ≤ cell (nicsOf marks) i → (0 < n → cell (nicsOf marks) i ≡ cellOf g seat → ⊥)
       → byte (d .range) i ≡ byte (blank marks range) i
   pub fields : (g' n' : ℕ) → g' < groupCount → n' < fieldCount (kindNumber g') → cellOf g' n' < cellOf g n
-      → FieldDrawn t (nicsOf marks) (targetsOf marks) g' n' d
-  pub seated : (k : ℕ) → k < slotCount → cellOf (firstStructure + k) 0 < cellOf g n → SeatDrawn t (nicsOf marks) k d
+      → FieldFilled t (nicsOf marks) (targetsOf marks) g' n' d
+  pub seated : (k : ℕ) → k < slotCount → cellOf (firstStructure + k) 0 < cellOf g n → SeatFilled t (nicsOf marks) k d
 
 module _ {t marks range strings : List ℕ} (lent : Lent t marks range strings) where
   abbrev nics : ℕ
@@ -65,9 +65,9 @@ module _ {t marks range strings : List ℕ} (lent : Lent t marks range strings) 
   abbrev targets : ℕ
   targets = targetsOf marks
 
-  pub drawn-first : Drawn t marks range strings 0 0 (blankDraft marks range strings)
+  pub filled-first : Filled t marks range strings 0 0 (blankDraft marks range strings)
   unfolding blankDraft
-  drawn-first = record {
+  filled-first = record {
     marks-are = refl;
     long = blank-long marks range (lent .large);
     room = refl;
@@ -81,34 +81,34 @@ module _ {t marks range strings : List ℕ} (lent : Lent t marks range strings) 
 
   -- ---- one field more
 
-  module _ {g n : ℕ} {d : Draft} (h : g < groupCount) (l : n < fieldCount (kindNumber g)) (drawn : Drawn t marks range strings g n d) where
+  module _ {g n : ℕ} {d : Draft} (h : g < groupCount) (l : n < fieldCount (kindNumber g)) (filled : Filled t marks range strings g n d) where
     pub field-below : n < seat
     field-below = omega (arith, field-few g h)
 
-    pub drawn-next : (e : Draft) → Enters t nics targets g n d e → Drawn t marks range strings g (suc n) e
-    drawn-next e step =
+    pub filled-next : (e : Draft) → Enters t nics targets g n d e → Filled t marks range strings g (suc n) e
+    filled-next e step =
         let small = field-below in
         let kept = step .kept in
         let counts : (i : ℕ) → i < 2 → byte (e .range) (nicsAt + i) ≡ byte (d .range) (nicsAt + i) =
         λ i few. let c = cell-counts nics i few in kept .range (nicsAt + i) (λ z. omega arith) (λ z. omega arith) in
         record {
-          marks-are = kept .marks ∙ drawn .marks-are;
-          long = kept .long ∙ drawn .long;
-          room = kept .room ∙ drawn .room;
-          nics-are = counts 0 (omega arith) ∙ drawn .nics-are;
-          targets-are = counts 1 (omega arith) ∙ drawn .targets-are;
+          marks-are = kept .marks ∙ filled .marks-are;
+          long = kept .long ∙ filled .long;
+          room = kept .room ∙ filled .room;
+          nics-are = counts 0 (omega arith) ∙ filled .nics-are;
+          targets-are = counts 1 (omega arith) ∙ filled .targets-are;
           used = step .used;
-          later = λ i low other. kept .range i (λ z. omega arith) (other (omega arith)) ∙ drawn .later i (omega arith) (λ p. other (omega arith));
+          later = λ i low other. kept .range i (λ z. omega arith) (other (omega arith)) ∙ filled .later i (omega arith) (λ p. other (omega arith));
           fields = λ g' n' h' l' less. elim (decLt (cellOf g' n') (cellOf g n)) [
-            | yes before ↦ kept-field lent g n d e kept g' n' h' l' (λ z. omega arith) (drawn .fields g' n' h' l' before)
+            | yes before ↦ kept-field lent g n d e kept g' n' h' l' (λ z. omega arith) (filled .fields g' n' h' l' before)
             | no before ↦
                 let small' = field-few g' h' in
                 let same : g ≡ g' = omega arith in
                 let own : n ≡ n' = omega arith in
-                subst (λ (g' : ℕ). FieldDrawn t nics targets g' n' e) same (subst (λ (n' : ℕ). FieldDrawn t nics targets g n' e) own (step .field))
+                subst (λ (g' : ℕ). FieldFilled t nics targets g' n' e) same (subst (λ (n' : ℕ). FieldFilled t nics targets g n' e) own (step .field))
           ];
           seated = λ k hk less. elim (decLt (firstStructure + k) g) [
-            | yes before ↦ kept-seat lent g n d e kept k hk (λ z. omega arith) small (drawn .seated k hk (omega arith))
+            | yes before ↦ kept-seat lent g n d e kept k hk (λ z. omega arith) small (filled .seated k hk (omega arith))
             | no before ↦ step .sits k hk (omega arith)
           ];
         }
@@ -121,7 +121,7 @@ module _ {t marks range strings : List ℕ} (lent : Lent t marks range strings) 
     blank-here c which positive port i inside is =
         let small = field-below in
         let most : c ≤ seat = ⊎-elim (λ e. omega arith) (λ e. omega (arith, e .0)) which in
-        drawn .later i (⊎-elim (λ e. omega arith) (λ e. omega (arith, e .0, e .1)) which) (λ p z. ⊎-elim (λ e. omega arith) (λ e. omega (arith, e .1)) which)
+        filled .later i (⊎-elim (λ e. omega arith) (λ e. omega (arith, e .0, e .1)) which) (λ p z. ⊎-elim (λ e. omega arith) (λ e. omega (arith, e .1)) which)
         ∙ blank-zero marks range (lent .large) g c h most positive port i (omega (arith, size-most lent)) is
 
   -- ---- the next group
@@ -142,18 +142,18 @@ module _ {t marks range strings : List ℕ} (lent : Lent t marks range strings) 
             rw (next, kind) (omega (arith, kind-fits k (omega arith) .fields))
       ]
 
-  pub drawn-turn : (g : ℕ) → g < groupCount → (d : Draft) → Drawn t marks range strings g (fieldCount (kindNumber g)) d
-      → Drawn t marks range strings (suc g) 0 d
-  drawn-turn g h d drawn = record {
-    marks-are = drawn .marks-are;
-    long = drawn .long;
-    room = drawn .room;
-    nics-are = drawn .nics-are;
-    targets-are = drawn .targets-are;
-    used = omega (arith, drawn .used, turn-used g h);
-    later = λ i low other. drawn .later i (omega (arith, field-few g h)) (λ p e. omega arith);
+  pub filled-turn : (g : ℕ) → g < groupCount → (d : Draft) → Filled t marks range strings g (fieldCount (kindNumber g)) d
+      → Filled t marks range strings (suc g) 0 d
+  filled-turn g h d filled = record {
+    marks-are = filled .marks-are;
+    long = filled .long;
+    room = filled .room;
+    nics-are = filled .nics-are;
+    targets-are = filled .targets-are;
+    used = omega (arith, filled .used, turn-used g h);
+    later = λ i low other. filled .later i (omega (arith, field-few g h)) (λ p e. omega arith);
     fields = λ g' n' h' l' less.
-        drawn .fields g' n' h' l'
+        filled .fields g' n' h' l'
         (elim (decLt g' g) [
           | yes before ↦ omega (arith, field-few g' h')
           | no before ↦
@@ -161,7 +161,7 @@ module _ {t marks range strings : List ℕ} (lent : Lent t marks range strings) 
               omega (arith, ap (λ (g : ℕ). fieldCount (kindNumber g)) same)
         ]);
     seated = λ k hk less.
-        drawn .seated k hk
+        filled .seated k hk
         (elim (decLt (firstStructure + k) g) [
           | yes before ↦ omega arith
           | no before ↦

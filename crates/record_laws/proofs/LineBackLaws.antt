@@ -40,20 +40,20 @@ use Rattle.ibft_table.specs.Check.{checkOf}
 use Rattle.ibft_table.specs.Record.{recordOf, contentIn, contentOf}
 use Rattle.ibft_table.specs.declared.verdict.Verdict.the-variants.{Accepted}
 use Rattle.ibft_laws.proofs.RecordLaws.{index-listed}
 use Rattle.record_text.specs.Fields.{firstStructure, firstIndexed, kindCount, groupOf, isText, fieldOf, fieldCount, nameOf}
 use Rattle.record_text.specs.Value.{modes, chapTypes, valueText, fieldText}
 use Rattle.record_text.specs.Enter.{Draft, groupCount, givenAt, withValue, withString, capacity, stepOf, plainStep, stringStep, valueStep, hasSlot, fieldStep, saysNothing, lineFound, lineStep}
 use Rattle.record_text.specs.Tell.{slotIn, kindNumber, indexHeld, recordField, lineWith}
 use Rattle.record_text.specs.Promises.{Bytes}
 use Rattle.record_text.specs.declared.fields.FieldName.{FieldName}
 use Rattle.record_text.specs.declared.fields.Found.the-variants.{Named}
 use Rattle.record_text.specs.declared.fields.Notation.{Notation}
 use Rattle.record_text.specs.declared.fields.Notation.the-variants.{Oem, Mode, Flags, Number, Port, Address, Mac, Pci, Chap, Text}
-use Rattle.record_text.proofs.Entered.{nameIn}
-use Rattle.record_text.proofs.NameBackLaws.{number-lacks, Indexed, NameFacts, name-facts}
+use Rattle.record_laws.proofs.Entered.{nameIn}
+use Rattle.record_laws.proofs.NameBackLaws.{number-lacks, Indexed, NameFacts, name-facts}
 use Rattle.record_text.proofs.ValueLaws.{each-at}
-use Rattle.record_text.proofs.ValueBackLaws.{Said}
-use Rattle.record_text.proofs.ToldBackLaws.{group-known, text-is, told-said, told-value, told-string}
+use Rattle.record_laws.proofs.ValueBackLaws.{Said}
+use Rattle.record_laws.proofs.ToldBackLaws.{group-known, text-is, told-said, told-value, told-string}
 
 -- ---- the Index of a group
 

@@ -15,13 +15,13 @@ use Rattle.octets.specs.Octets.{byte, le16, zeros, write}
 use Rattle.octets.proofs.WriteLaws.{length-write, write-at, length-zeros, getD-zeros}
 use Rattle.ibft_table.specs.Layout.{nic, target, flagsAt, slotCount, namedCount, extraNics, extraTargets}
 use Rattle.build_rules.specs.RecordRange.{largestSize, nicsAt, nicsGiven, targetsGiven, imageAt, structureGiven}
 use Rattle.record_text.specs.Fields.{firstStructure, fieldCount, fieldOf}
 use Rattle.record_text.specs.Enter.{groupCount, extrasOf, counted, hasImage, portAt, withPort, withUsual, usualTo, blank}
 use Rattle.record_text.specs.Tell.{kindNumber}
 use Rattle.record_text.specs.declared.fields.FieldLayout.{FieldLayout}
 use Rattle.record_text.proofs.FieldFitsLaws.{kindIn, seat, kind-slot, kind-fits, flags-field, port-field}
-use Rattle.record_text.proofs.RangePlaceLaws.{imageBy, image-by, Placed}
-use Rattle.record_text.proofs.CellLaws.{cellOf, cell, cell-counts, cell-slot, cell-keeps}
+use Rattle.record_laws.proofs.RangePlaceLaws.{imageBy, image-by, Placed}
+use Rattle.record_laws.proofs.CellLaws.{cellOf, cell, cell-counts, cell-slot, cell-keeps}
 
 -- the numbers of extras that the marks count
 abbrev pub nicsOf : List ℕ → ℕ

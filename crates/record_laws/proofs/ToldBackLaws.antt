@@ -48,16 +48,16 @@ use Rattle.ibft_laws.proofs.LayoutLaws.{slot-fits, entry-fits, slot-entry, slot
 use Rattle.ibft_laws.proofs.RecordLaws.{structure-listed, entry-listed, table-entry-some}
 use Rattle.ibft_laws.proofs.TableLaws.{slot-kept, entry-owner-on, entry-kept, entry-length}
 use Rattle.build_rules.specs.Plan.{isPresent}
 use Rattle.record_text.specs.Fields.{firstStructure, kindCount, groupOf, isText, isAlways, notationIn, placeIn, fieldOf, fieldCount, plainCount}
 use Rattle.record_text.specs.Value.{chapTypes, modes, valueText, fieldText, fieldBytes}
 use Rattle.record_text.specs.Enter.{groupCount}
 use Rattle.record_text.specs.Tell.{slotIn, kindNumber, within, structureField, recordField, isTold}
 use Rattle.record_text.specs.Promises.{Bytes}
 use Rattle.record_text.specs.declared.fields.Notation.{Notation}
 use Rattle.record_text.specs.declared.fields.Notation.the-variants.{Oem, Mode, Flags, Number, Port, Address, Mac, Pci, Chap, Text}
-use Rattle.record_text.proofs.Entered.{Held}
+use Rattle.record_laws.proofs.Entered.{Held}
 use Rattle.record_text.proofs.ValueLaws.{each-at, eachField, groupPasses, group-field, every-field, slot-field}
-use Rattle.record_text.proofs.ValueBackLaws.{Said, take-small, field-back}
+use Rattle.record_laws.proofs.ValueBackLaws.{Said, take-small, field-back}
 
 -- ---- bytes of a table, and what is shown of it
 

@@ -20,13 +20,13 @@ use Rattle.ibft_table.specs.Layout.{Kind, nic, target, kindOf, slotCount, named
 use Rattle.ibft_table.proofs.LayoutLaws.{owner-later}
 use Rattle.ibft_laws.proofs.LayoutLaws.{slot-entry-owner, nic-slot, target-slot}
 use Rattle.build_rules.specs.RecordRange.{marksAt, nicsAt, extraSize, nicImage, namedImage}
 use Rattle.record_text.specs.Fields.{firstStructure, fieldCount, plainCount, fieldOf}
 use Rattle.record_text.specs.Enter.{groupCount}
 use Rattle.record_text.specs.Tell.{kindNumber}
 use Rattle.record_text.specs.Computing.{computing}
 use Rattle.record_text.specs.declared.fields.FieldLayout.{FieldLayout}
 use Rattle.record_text.proofs.FieldFitsLaws.{kindIn, stringsIn, seat, endOf, fieldAt, kind-slot, kind-fits, field-own, field-fits, word-field, grid-equal}
-use Rattle.record_text.proofs.RangePlaceLaws.{imageBy, markBy, seatBy, wordsBy, baseBy, base-slot, lowGroups, low-base, low-end, Placed}
+use Rattle.record_laws.proofs.RangePlaceLaws.{imageBy, markBy, seatBy, wordsBy, baseBy, base-slot, lowGroups, low-base, low-end, Placed}
 
 -- ---- the map
 

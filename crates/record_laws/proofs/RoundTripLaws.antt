@@ -5,13 +5,13 @@
 -- Assumes nothing.
 use mathlib.Core.Path.{refl, sym, ap, subst}
 use Rattle.build_rules.proofs.RebuildLaws.{tables-tell-records}
 use Rattle.record_text.specs.Tell.{tableText}
 use Rattle.record_text.specs.Promises.{rangeLeft, stringsLeft, ToldAndEntered, EntersWhatIsTold, ToldAlike}
-use Rattle.record_text.proofs.LentLaws.{Lent}
-use Rattle.record_text.proofs.NotedLaws.{noted-told}
-use Rattle.record_text.proofs.TextEnteredLaws.{marksTold, text-entered}
-use Rattle.record_text.proofs.RangeEnteredLaws.{entered-record, entered-builds, entered-built}
-use Rattle.record_text.proofs.TextSizeLaws.{text-fits}
+use Rattle.record_laws.proofs.LentLaws.{Lent}
+use Rattle.record_laws.proofs.NotedLaws.{noted-told}
+use Rattle.record_laws.proofs.TextEnteredLaws.{marksTold, text-entered}
+use Rattle.record_laws.proofs.RangeEnteredLaws.{entered-record, entered-builds, entered-built}
+use Rattle.record_laws.proofs.TextSizeLaws.{text-fits}
 
 pub enters-what-is-told : EntersWhatIsTold
 enters-what-is-told t range strings small ok large roomy =

@@ -24,15 +24,15 @@ use Rattle.ibft_table.specs.Layout.{kindOf, entryCount, firstEntry}
 use Rattle.ibft_table.specs.Check.{checkOf}
 use Rattle.ibft_table.specs.Record.{Record, recordOf}
 use Rattle.ibft_table.specs.declared.verdict.Verdict.the-variants.{Accepted}
 use Rattle.record_text.specs.Fields.{firstStructure, firstIndexed, groupOf, isText, isAlways, fieldOf, fieldCount, plainCount}
 use Rattle.record_text.specs.Enter.{Draft, groupCount, groupNumber, givenAt, hasSlot, withValue, withString, capacity, stepOf, noField, saysNothing, lineStep, linesFrom}
 use Rattle.record_text.specs.Tell.{slotIn, kindNumber, indexHeld, recordField, isTold, lineWith, lineOf, groupText, recordText}
 use Rattle.record_text.specs.Promises.{Bytes}
 use Rattle.record_text.specs.declared.fields.FieldName.{FieldName}
-use Rattle.record_text.proofs.Entered.{nameIn, valued, fieldsEntered, groupsEntered, Held, Seats}
-use Rattle.record_text.proofs.LeadsLaws.{Leads, leads-none, leads-line, leads-gather, leads-end}
-use Rattle.record_text.proofs.ToldBackLaws.{kind-facts, slot-kind, low-kind, group-known, fields-few, text-last, text-entry, lengthHeld, entry-short, told-held, told-entry}
-use Rattle.record_text.proofs.LineBackLaws.{line, told-with, told-line, told-line-value, told-line-string}
+use Rattle.record_laws.proofs.Entered.{nameIn, valued, fieldsEntered, groupsEntered, Held, Seats}
+use Rattle.record_laws.proofs.LeadsLaws.{Leads, leads-none, leads-line, leads-gather, leads-end}
+use Rattle.record_laws.proofs.ToldBackLaws.{kind-facts, slot-kind, low-kind, group-known, fields-few, text-last, text-entry, lengthHeld, entry-short, told-held, told-entry}
+use Rattle.record_laws.proofs.LineBackLaws.{line, told-with, told-line, told-line-value, told-line-string}
 
 -- ---- the seat of a group
 

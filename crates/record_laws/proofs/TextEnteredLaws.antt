@@ -11,12 +11,12 @@ use Rattle.ibft_table.specs.Layout.{entryCount}
 use Rattle.ibft_table.specs.Check.{checkOf}
 use Rattle.ibft_table.specs.Record.{recordOf}
 use Rattle.ibft_table.specs.declared.verdict.Verdict.the-variants.{Accepted}
 use Rattle.record_text.specs.Enter.{linesNoted, noneNoted, groupCount, blankDraft, noField, enteredFrom}
 use Rattle.record_text.specs.Tell.{recordText, ifAccepted, tableText}
 use Rattle.record_text.specs.Promises.{Bytes}
-use Rattle.record_text.proofs.Entered.{groupsEntered}
-use Rattle.record_text.proofs.EnteredLaws.{lines-told}
-use Rattle.record_text.proofs.NotedLaws.{noted-told}
+use Rattle.record_laws.proofs.Entered.{groupsEntered}
+use Rattle.record_laws.proofs.EnteredLaws.{lines-told}
+use Rattle.record_laws.proofs.NotedLaws.{noted-told}
 
 -- the marks of a table's text
 abbrev pub marksTold : List ℕ → List ℕ

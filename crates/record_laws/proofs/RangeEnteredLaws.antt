@@ -32,19 +32,19 @@ use Rattle.build_rules.specs.Build.{answerOf, roomAfter}
 use Rattle.build_rules.specs.RebuildPromises.{Clean}
 use Rattle.build_rules.proofs.ReadsLaws.{Reads}
 use Rattle.build_rules.proofs.RebuildLaws.{record-read, clean-accepted, read-builds}
 use Rattle.record_text.specs.Fields.{firstStructure, groupOf, plainCount, fieldCount, placeIn, fieldOf}
 use Rattle.record_text.specs.Enter.{Draft, groupCount, blankDraft}
 use Rattle.record_text.specs.Tell.{kindNumber}
 use Rattle.record_text.specs.Computing.{computing}
-use Rattle.record_text.proofs.Entered.{groupsEntered}
+use Rattle.record_laws.proofs.Entered.{groupsEntered}
 use Rattle.record_text.proofs.FieldFitsLaws.{kindIn, stringsIn, kind-slot, kind-fits, field-few, Covered, field-covers}
-use Rattle.record_text.proofs.RangePlaceLaws.{imageBy, markBy, seatBy, wordsBy, baseBy, image-by, base-slot, Used, used-named, sizeBy, size-by, field-inside, seat-inside, words-inside, mark-inside}
-use Rattle.record_text.proofs.BlankLaws.{nicsOf, targetsOf}
+use Rattle.record_laws.proofs.RangePlaceLaws.{imageBy, markBy, seatBy, wordsBy, baseBy, image-by, base-slot, Used, used-named, sizeBy, size-by, field-inside, seat-inside, words-inside, mark-inside}
+use Rattle.record_laws.proofs.BlankLaws.{nicsOf, targetsOf}
 use Rattle.record_text.proofs.HeldLaws.{holdsGroup, source, holds-slot, source-slot, plain-inside}
-use Rattle.record_text.proofs.LentLaws.{Lent, nics-held, targets-held, size-most, used-present, used-held, used-sits}
-use Rattle.record_text.proofs.KeptLaws.{StringDrawn, seatHeld}
-use Rattle.record_text.proofs.DrawnLaws.{entriesTo, Drawn}
-use Rattle.record_text.proofs.DrawnStepLaws.{drawn-groups}
+use Rattle.record_laws.proofs.LentLaws.{Lent, nics-held, targets-held, size-most, used-present, used-held, used-sits}
+use Rattle.record_laws.proofs.KeptLaws.{StringFilled, seatHeld}
+use Rattle.record_laws.proofs.FilledLaws.{entriesTo, Filled}
+use Rattle.record_laws.proofs.FilledStepLaws.{filled-groups}
 
 -- two parts that are equal byte by byte
 part-equal : (u v : List ℕ) (a b n : ℕ) → a + n ≤ length u → b + n ≤ length v → ((i : ℕ) → i < n → byte u (a + i) ≡ byte v (b + i)) → part u a n ≡ part v b n
@@ -72,32 +72,32 @@ module _ {t marks range strings : List ℕ} (lent : Lent t marks range strings) 
   abbrev stringsLeft : List ℕ
   stringsLeft = take (d .used) (d .strings)
 
-  drawn : Drawn t marks range strings groupCount 0 d
-  drawn = drawn-groups lent groupCount (omega arith)
+  filled : Filled t marks range strings groupCount 0 d
+  filled = filled-groups lent groupCount (omega arith)
 
   abbrev size : ℕ
   size = sizeBy nics targets
 
   size-is : rangeSize (d .range) ≡ size
-  size-is = size-by nics targets (d .range) (drawn .nics-are) (drawn .targets-are)
+  size-is = size-by nics targets (d .range) (filled .nics-are) (filled .targets-are)
 
   range-long : length rangeLeft ≡ size
-  range-long = length-take-le (rangeSize (d .range)) (d .range) (omega (arith, size-is, size-most lent, drawn .long)) ∙ size-is
+  range-long = length-take-le (rangeSize (d .range)) (d .range) (omega (arith, size-is, size-most lent, filled .long)) ∙ size-is
 
   byte-left : (i : ℕ) → i < size → byte rangeLeft i ≡ byte (d .range) i
   byte-left i h = getD-take (rangeSize (d .range)) (d .range) i 0 (omega (arith, size-is))
 
   -- the strings have room for 255 bytes of every entry
   strings-long : length stringsLeft ≡ d .used
-  strings-long = length-take-le (d .used) (d .strings) (omega (arith, drawn .used, entries-all, drawn .room, lent .roomy))
+  strings-long = length-take-le (d .used) (d .strings) (omega (arith, filled .used, entries-all, filled .room, lent .roomy))
 
   nics-left : nicsGiven rangeLeft ≡ nics
   unfolding sizeBy nicImage
-  nics-left = byte-left nicsAt (omega arith) ∙ drawn .nics-are
+  nics-left = byte-left nicsAt (omega arith) ∙ filled .nics-are
 
   targets-left : targetsGiven rangeLeft ≡ targets
   unfolding sizeBy nicImage
-  targets-left = byte-left (nicsAt + 1) (omega arith) ∙ drawn .targets-are
+  targets-left = byte-left (nicsAt + 1) (omega arith) ∙ filled .targets-are
 
   image-is : (k : ℕ) → imageAt rangeLeft k ≡ imageBy nics k
   image-is = image-by rangeLeft nics nics-left
@@ -114,7 +114,7 @@ module _ {t marks range strings : List ℕ} (lent : Lent t marks range strings) 
     field-byte j m =
         byte-left (baseBy nics g + ((fieldOf (kindNumber g) n) .at + j))
         (omega (arith, field-inside nics targets g n h (used-held lent g h on) plain-below))
-        ∙ drawn .fields g n h plain-below (omega (arith, field-few g h, plain-below)) .plain on l j m
+        ∙ filled .fields g n h plain-below (omega (arith, field-few g h, plain-below)) .plain on l j m
 
     field-part : part rangeLeft (baseBy nics g + (fieldOf (kindNumber g) n) .at) ((fieldOf (kindNumber g) n) .width)
         ≡ part t (source t g + (fieldOf (kindNumber g) n) .at) ((fieldOf (kindNumber g) n) .width)
@@ -157,7 +157,7 @@ module _ {t marks range strings : List ℕ} (lent : Lent t marks range strings) 
   seat-byte : (k : ℕ) → k < slotCount → (namedCount ≤ k → present t k ≡ true) → byte rangeLeft (seatBy nics k) ≡ seatHeld t k
   seat-byte k h sits =
       byte-left (seatBy nics k) (seat-inside nics targets k h (used-sits lent k h sits))
-      ∙ drawn .seated k h (omega arith) sits
+      ∙ filled .seated k h (omega arith) sits
 
   slot-mark : (k : ℕ) → k < namedCount → byte rangeLeft (marksAt + k) ≡ mark (present t k)
   unfolding seatBy seatHeld
@@ -170,14 +170,14 @@ module _ {t marks range strings : List ℕ} (lent : Lent t marks range strings) 
   -- ---- strings
 
   module _ (k m : ℕ) (hk : k < slotCount) (hm : m < stringsIn k) (used : Used nics targets (firstStructure + k)) where
-    string-drawn : StringDrawn t nics k m d
-    string-drawn =
+    string-filled : StringFilled t nics k m d
+    string-filled =
         let fits = kind-fits k hk in
         let below : plainCount (kindIn k) + m < fieldCount (kindNumber (firstStructure + k)) = omega (arith, fits .fields, ap fieldCount (kind-slot k)) in
-        drawn .fields (firstStructure + k) (plainCount (kindIn k) + m) (omega arith) below (omega (arith, fits .few, fits .fields)) .string k m hk hm refl refl used
+        filled .fields (firstStructure + k) (plainCount (kindIn k) + m) (omega arith) below (omega (arith, fits .few, fits .fields)) .string k m hk hm refl refl used
 
     mark-byte : byte rangeLeft (markBy nics (firstEntry k + m)) ≡ mark (holdsEntry t (firstEntry k + m))
-    mark-byte = byte-left (markBy nics (firstEntry k + m)) (mark-inside nics targets k hk used m hm) ∙ string-drawn .marked
+    mark-byte = byte-left (markBy nics (firstEntry k + m)) (mark-inside nics targets k hk used m hm) ∙ string-filled .marked
 
     word-left : (i : ℕ) → i + 1 < 4 → word16 rangeLeft (wordsBy nics k m + i) ≡ word16 (d .range) (wordsBy nics k m + i)
     word-left i h =
@@ -222,8 +222,8 @@ module _ {t marks range strings : List ℕ} (lent : Lent t marks range strings) 
       used-here : Used nics targets (firstStructure + slot)
       used-here = used-present lent slot (entry-fits n h .owner) (entry-owner-on t n on)
 
-      entry-drawn : StringDrawn t nics slot own d
-      entry-drawn = string-drawn slot own (entry-fits n h .owner) own-below used-here
+      entry-filled : StringFilled t nics slot own d
+      entry-filled = string-filled slot own (entry-fits n h .owner) own-below used-here
 
       there : holdsEntry t (firstEntry slot + own) ≡ true
       there = ap (holdsEntry t) entry-is ∙ on
@@ -234,7 +234,7 @@ module _ {t marks range strings : List ℕ} (lent : Lent t marks range strings) 
           ap (word16 rangeLeft) (omega (arith, words-are))
           ∙ word-left slot own (entry-fits n h .owner) own-below used-here 0 (omega arith)
           ∙ ap (word16 (d .range)) (omega arith)
-          ∙ entry-drawn .size there
+          ∙ entry-filled .size there
           ∙ ap (sizeOf t) entry-is
 
       start-is : startGiven rangeLeft n ≡ word16 (d .range) (wordsBy nics slot own + 2)
@@ -243,7 +243,7 @@ module _ {t marks range strings : List ℕ} (lent : Lent t marks range strings) 
           ap (word16 rangeLeft) (omega (arith, words-are)) ∙ word-left slot own (entry-fits n h .owner) own-below used-here 2 (omega arith)
 
       inside : startGiven rangeLeft n + lengthGiven rangeLeft n ≤ length stringsLeft
-      inside = omega (arith, start-is, long, entry-drawn .inside there, ap (sizeOf t) entry-is, strings-long)
+      inside = omega (arith, start-is, long, entry-filled .inside there, ap (sizeOf t) entry-is, strings-long)
 
       bytes : bytesGiven rangeLeft stringsLeft n ≡ part t (offsetOf t n) (sizeOf t n)
       unfolding bytesGiven
@@ -254,7 +254,7 @@ module _ {t marks range strings : List ℕ} (lent : Lent t marks range strings) 
           (λ i few.
           getD-take (d .used) (d .strings) (startGiven rangeLeft n + i) 0 (omega (arith, inside, long, strings-long))
           ∙ ap (λ (s : ℕ). byte (d .strings) (s + i)) start-is
-          ∙ entry-drawn .bytes there i (omega (arith, ap (sizeOf t) entry-is))
+          ∙ entry-filled .bytes there i (omega (arith, ap (sizeOf t) entry-is))
           ∙ ap (λ (e : ℕ). byte t (offsetOf t e + i)) entry-is)
 
   entry-mark : (n : ℕ) → n < namedEntries → byte rangeLeft (marksAt + namedCount + n) ≡ mark (holdsEntry t n)

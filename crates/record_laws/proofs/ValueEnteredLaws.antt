@@ -22,20 +22,20 @@ use Rattle.octets.proofs.WriteLaws.{length-write, write-at}
 use Rattle.ibft_table.specs.Layout.{target, slotCount, namedCount}
 use Rattle.ibft_table.specs.Table.{indexIn, startOf, present}
 use Rattle.ibft_table.specs.Record.{recordOf}
 use Rattle.record_text.specs.Fields.{firstStructure, isText, isAlways, fieldCount, plainCount, fieldOf}
 use Rattle.record_text.specs.Enter.{Draft, groupCount, slotOf, placeOf, seated, present as withSeat, withValue}
 use Rattle.record_text.specs.Tell.{slotIn, kindNumber, indexHeld, isTold}
 use Rattle.record_text.specs.declared.fields.FieldName.{FieldName}
 use Rattle.record_text.specs.declared.fields.FieldLayout.{FieldLayout}
-use Rattle.record_text.proofs.Entered.{nameIn}
+use Rattle.record_laws.proofs.Entered.{nameIn}
 use Rattle.record_text.proofs.FieldFitsLaws.{kindIn, seat, kind-slot, kind-fits, flags-field, port-field}
-use Rattle.record_text.proofs.RangePlaceLaws.{seatBy, baseBy, image-by, base-slot, Used, field-inside, seat-inside}
-use Rattle.record_text.proofs.CellLaws.{cellOf, cell, cell-seat, cell-field, cell-keeps}
-use Rattle.record_text.proofs.BlankLaws.{nicsOf, targetsOf}
+use Rattle.record_laws.proofs.RangePlaceLaws.{seatBy, baseBy, image-by, base-slot, Used, field-inside, seat-inside}
+use Rattle.record_laws.proofs.CellLaws.{cellOf, cell, cell-seat, cell-field, cell-keeps}
+use Rattle.record_laws.proofs.BlankLaws.{nicsOf, targetsOf}
 use Rattle.record_text.proofs.HeldLaws.{holdsGroup, source, holds-slot, present-held, index-held, plain-length}
-use Rattle.record_text.proofs.LentLaws.{Lent, size-most, used-present, used-held, used-sits}
-use Rattle.record_text.proofs.KeptLaws.{seatHeld, kept-self}
-use Rattle.record_text.proofs.DrawnLaws.{more-used, Drawn, Enters, field-below, blank-here}
+use Rattle.record_laws.proofs.LentLaws.{Lent, size-most, used-present, used-held, used-sits}
+use Rattle.record_laws.proofs.KeptLaws.{seatHeld, kept-self}
+use Rattle.record_laws.proofs.FilledLaws.{more-used, Filled, Enters, field-below, blank-here}
 
 -- a list of zeros
 zero-at : (l : List ℕ) → allZero l ≡ true → (i : ℕ) → byte l i ≡ 0
@@ -62,7 +62,7 @@ module _ {t marks range strings : List ℕ} (lent : Lent t marks range strings) 
   abbrev targets : ℕ
   targets = targetsOf marks
 
-  module _ {g n : ℕ} {d : Draft} (h : g < groupCount) (l : n < fieldCount (kindNumber g)) (drawn : Drawn t marks range strings g n d) where
+  module _ {g n : ℕ} {d : Draft} (h : g < groupCount) (l : n < fieldCount (kindNumber g)) (filled : Filled t marks range strings g n d) where
     abbrev name : FieldName
     name = nameIn (recordOf t) g n
 
@@ -73,7 +73,7 @@ module _ {t marks range strings : List ℕ} (lent : Lent t marks range strings) 
       pub slot-is : slotOf (d .marks) name ≡ k
       slot-is =
           let slot : slotIn g ≡ k = omega arith in
-          ap (λ (m : List ℕ). slotOf m name) (drawn .marks-are)
+          ap (λ (m : List ℕ). slotOf m name) (filled .marks-are)
           ∙ lent .seats .slot g n (omega arith) h (rw slot (present-held t k hk ∙ on))
           ∙ slot
 
@@ -92,13 +92,13 @@ module _ {t marks range strings : List ℕ} (lent : Lent t marks range strings) 
           rw (no-header, slot-is)
           (elim (decLt k namedCount) [
             | yes low ↦ rw (lt-ltb k namedCount low, on)
-            | no low ↦ rw (le-ltb k namedCount (omega arith), image-by (d .range) nics (drawn .nics-are) k, index-is (omega arith))
+            | no low ↦ rw (le-ltb k namedCount (omega arith), image-by (d .range) nics (filled .nics-are) k, index-is (omega arith))
           ])
 
       pub place-slot : placeOf d name ≡ baseBy nics g + (fieldOf (kindNumber g) n) .at
       unfolding placeOf
       place-slot =
-          rw (no-header, slot-is, image-by (d .range) nics (drawn .nics-are) k)
+          rw (no-header, slot-is, image-by (d .range) nics (filled .nics-are) k)
           (ap (λ (b : ℕ). b + (fieldOf (kindNumber g) n) .at) (sym (base-slot nics k) ∙ ap (baseBy nics) z))
 
       pub slot-entered : SeatEntered t nics g n d name
@@ -106,7 +106,7 @@ module _ {t marks range strings : List ℕ} (lent : Lent t marks range strings) 
           let used = used-present lent k hk on in
           let own = cell-seat nics k hk (used .placed) ∙ ap (λ (g : ℕ). cellOf g seat) z in
           let ys : List ℕ = seatHeld t k ∷ [] in
-          let inside : seatBy nics k + 0 < length (d .range) = omega (arith, seat-inside nics targets k hk used, size-most lent, drawn .long) in
+          let inside : seatBy nics k + 0 < length (d .range) = omega (arith, seat-inside nics targets k hk used, size-most lent, filled .long) in
           let first : seatBy nics k ≡ seatBy nics k + 0 = omega arith in
           record {
             long = ap length seat-slot ∙ length-write (d .range) (seatBy nics k) ys;
@@ -159,7 +159,7 @@ module _ {t marks range strings : List ℕ} (lent : Lent t marks range strings) 
           grows = omega arith;
           strings = λ i p. refl;
         };
-        used = omega (arith, drawn .used, more-used g n);
+        used = omega (arith, filled .used, more-used g n);
         field = record {
           plain = λ _ _ j m.
               ap (byte (write (withSeat d name) (placeOf d name) (value t g n))) (omega (arith, entered .place))
@@ -168,7 +168,7 @@ module _ {t marks range strings : List ℕ} (lent : Lent t marks range strings) 
           string = λ k m hk hm z is. absurd (plain-no-string plain k m z is);
         };
         sits = λ k hk z sits.
-            let small = field-below lent h l drawn in
+            let small = field-below lent h l filled in
             let at = cell-seat nics k hk (used-sits lent k hk sits .placed) in
             cell-keeps nics (withSeat d name) (placeOf d name) (value t g n) (cellOf g n) (seatBy nics k) own (λ e. omega arith)
             ∙ entered .here k hk z;
@@ -188,7 +188,7 @@ module _ {t marks range strings : List ℕ} (lent : Lent t marks range strings) 
 
           inside : (j : ℕ) → j < (fieldOf (kindNumber g) n) .width → placeOf d name + j < length (withSeat d name)
           inside j m =
-              omega (arith, entered .place, entered .long, field-inside nics targets g n h used-here l, size-most lent, drawn .long)
+              omega (arith, entered .place, entered .long, field-inside nics targets g n h used-here l, size-most lent, filled .long)
 
       -- a value that is not told is zero, in the table and in the draft
       pub untold : isTold (kindNumber g) n (value t g n) ≡ false → Enters t nics targets g n d d
@@ -199,15 +199,15 @@ module _ {t marks range strings : List ℕ} (lent : Lent t marks range strings) 
           let used-here = used-held lent g h on in
           record {
             kept = kept-self nics g n d;
-            used = omega (arith, drawn .used, more-used g n);
+            used = omega (arith, filled .used, more-used g n);
             field = record {
               plain = λ _ _ j m.
-                  blank-here lent h l drawn n (inl refl) (positive never) (port never) (baseBy nics g + ((fieldOf (kindNumber g) n) .at + j))
+                  blank-here lent h l filled n (inl refl) (positive never) (port never) (baseBy nics g + ((fieldOf (kindNumber g) n) .at + j))
                   (omega (arith, field-inside nics targets g n h used-here l)) (cell-field nics g n j h (used-here .placed) l m)
                   ∙ sym (zero-at (value t g n) (not-false _ (zero .1)) j) ∙ value-at j m;
               string = λ k m hk hm z is. absurd (plain-no-string plain k m z is);
             };
-            sits = λ k hk z. drawn .seated k hk (omega (arith, positive never (omega arith)));
+            sits = λ k hk z. filled .seated k hk (omega (arith, positive never (omega arith)));
           }
         where
           always : (f : FieldLayout) → fieldOf (kindNumber g) n ≡ f → isAlways ((fieldOf (kindNumber g) n) .notation) ≡ isAlways (f .notation)

@@ -35,19 +35,19 @@ use Rattle.notation.proofs.EscapeLaws.{text-length as string-length}
 use Rattle.ibft_table.specs.Check.{checkOf}
 use Rattle.ibft_table.specs.Record.{recordOf}
 use Rattle.ibft_table.specs.declared.verdict.Verdict.the-variants.{Accepted}
 use Rattle.record_text.specs.Fields.{Group, oem, groups, groupNames, firstIndexed, groupOf, isText, isOem, fieldOf, fieldCount, indexText, dotted, nameOf}
 use Rattle.record_text.specs.Value.{modes, chapTypes, fits, valueText, fieldText}
 use Rattle.record_text.specs.Enter.{groupCount}
 use Rattle.record_text.specs.Tell.{kindNumber, indexHeld, recordField, isTold, lineWith, lineOf, fieldLine, groupText, recordText, ifAccepted, tableText}
 use Rattle.record_text.specs.Promises.{Bytes, longestText}
 use Rattle.record_text.specs.Computing.{computing}
 use Rattle.record_text.specs.declared.fields.Notation.{Notation}
 use Rattle.record_text.specs.declared.fields.Notation.the-variants.{Oem, Mode, Flags, Number, Port, Address, Mac, Pci, Chap, Text}
 use Rattle.record_text.proofs.ValueLaws.{each-at, field-fits}
 use Rattle.record_text.proofs.WidthLaws.{field-width}
-use Rattle.record_text.proofs.ValueBackLaws.{Said}
-use Rattle.record_text.proofs.ToldBackLaws.{text-entry, text-is, lengthHeld, entry-short, told-said, told-small, told-value, told-entry}
-use Rattle.record_text.proofs.LineBackLaws.{group-indexed}
+use Rattle.record_laws.proofs.ValueBackLaws.{Said}
+use Rattle.record_laws.proofs.ToldBackLaws.{text-entry, text-is, lengthHeld, entry-short, told-said, told-small, told-value, told-entry}
+use Rattle.record_laws.proofs.LineBackLaws.{group-indexed}
 
 -- ---- bounds added up
 

@@ -1,6 +1,6 @@
--- Field by field, group by group: each field of the record is entered as the table has it, so that at last all of them are drawn.
---     drawn-step                     one field
---     drawn-fields, drawn-groups     the fields of a group, all groups
+-- Field by field, group by group: each field of the record is entered as the table has it, so that at last all of them are filled.
+--     filled-step                     one field
+--     filled-fields, filled-groups     the fields of a group, all groups
 -- Assumes nothing.
 use mathlib.Core.Path.{_≡_, refl, sym, ap, ap₂, _∙_}
 use mathlib.Core.Bool.{Bool, true, false, cond, _||_}
@@ -15,18 +15,18 @@ use Rattle.octets.proofs.CountingLaws.{clash}
 use Rattle.ibft_table.specs.Layout.{slotCount, firstEntry}
 use Rattle.ibft_table.specs.Table.{present, sizeOf, offsetOf, holdsEntry}
 use Rattle.ibft_table.specs.Record.{shownIf, recordOf}
 use Rattle.record_text.specs.Fields.{firstStructure, isText, fieldCount, plainCount, fieldOf}
 use Rattle.record_text.specs.Enter.{Draft, groupCount, blankDraft, withValue}
 use Rattle.record_text.specs.Tell.{kindNumber, recordField, isTold}
 use Rattle.record_text.specs.declared.fields.FieldName.{FieldName}
-use Rattle.record_text.proofs.Entered.{nameIn, valued, fieldsEntered, groupsEntered}
+use Rattle.record_laws.proofs.Entered.{nameIn, valued, fieldsEntered, groupsEntered}
 use Rattle.record_text.proofs.FieldFitsLaws.{kindIn, stringsIn, kind-slot, kind-few, kind-fits, field-plain, field-text}
-use Rattle.record_text.proofs.BlankLaws.{nicsOf, targetsOf}
+use Rattle.record_laws.proofs.BlankLaws.{nicsOf, targetsOf}
 use Rattle.record_text.proofs.HeldLaws.{holdsGroup, holds-slot, string-field, absent-field, plain-field}
-use Rattle.record_text.proofs.LentLaws.{Lent}
-use Rattle.record_text.proofs.DrawnLaws.{Drawn, Enters, drawn-first, drawn-next, drawn-turn}
-use Rattle.record_text.proofs.ValueEnteredLaws.{value, value-entered, untold}
-use Rattle.record_text.proofs.StringEnteredLaws.{string-entered, missing-entered, absent-entered}
+use Rattle.record_laws.proofs.LentLaws.{Lent}
+use Rattle.record_laws.proofs.FilledLaws.{Filled, Enters, filled-first, filled-next, filled-turn}
+use Rattle.record_laws.proofs.ValueEnteredLaws.{value, value-entered, untold}
+use Rattle.record_laws.proofs.StringEnteredLaws.{string-entered, missing-entered, absent-entered}
 
 module _ {t marks range strings : List ℕ} (lent : Lent t marks range strings) where
   abbrev nics : ℕ
@@ -35,7 +35,7 @@ module _ {t marks range strings : List ℕ} (lent : Lent t marks range strings) 
   abbrev targets : ℕ
   targets = targetsOf marks
 
-  module _ {g n : ℕ} {d : Draft} (h : g < groupCount) (l : n < fieldCount (kindNumber g)) (drawn : Drawn t marks range strings g n d) where
+  module _ {g n : ℕ} {d : Draft} (h : g < groupCount) (l : n < fieldCount (kindNumber g)) (filled : Filled t marks range strings g n d) where
     abbrev name : FieldName
     name = nameIn (recordOf t) g n
 
@@ -47,8 +47,8 @@ module _ {t marks range strings : List ℕ} (lent : Lent t marks range strings) 
       where
         told : (on : holdsGroup t g ≡ true) (b : Bool) → isTold (kindNumber g) n (value t g n) ≡ b
             → Enters t nics targets g n d (cond b (withValue d name (value t g n)) d)
-        told on true e = value-entered lent h l drawn on plain
-        told on false e = untold lent h l drawn on plain e
+        told on true e = value-entered lent h l filled on plain
+        told on false e = untold lent h l filled on plain e
 
         go : (b : Bool) → holdsGroup t g ≡ b → Enters t nics targets g n d (valued d name (recordField (recordOf t) g n))
         go true on =
@@ -65,7 +65,7 @@ module _ {t marks range strings : List ℕ} (lent : Lent t marks range strings) 
                   let away : present t k ≡ false = sym (holds-slot t k) ∙ ap (holdsGroup t) z ∙ off in
                   let below : n < fieldCount (kindIn k) = omega (arith, ap (λ (g : ℕ). fieldCount (kindNumber g)) z, ap fieldCount (kind-slot k)) in
                   let nothing : recordField (recordOf t) g n ≡ none = ap (λ (g : ℕ). recordField (recordOf t) g n) (sym z) ∙ absent-field t k hk n below away in
-                  rw nothing (absent-entered lent h l drawn k hk z away)
+                  rw nothing (absent-entered lent h l filled k hk z away)
             ]
 
     string-step : (k m : ℕ) → k < slotCount → m < stringsIn k → firstStructure + k ≡ g → n ≡ plainCount (kindIn k) + m
@@ -83,12 +83,12 @@ module _ {t marks range strings : List ℕ} (lent : Lent t marks range strings) 
         field = ap₂ (λ (g n : ℕ). recordField (recordOf t) g n) (sym z) is ∙ string-field t k hk m hm
 
         go : (b : Bool) → holdsEntry t (firstEntry k + m) ≡ b → Enters t nics targets g n d (valued d name (recordField (recordOf t) g n))
-        go true on = rw (field, on, text) (string-entered lent h l drawn k m hk hm z is on)
-        go false off = rw (field, off) (missing-entered lent h l drawn k m hk hm z is off)
+        go true on = rw (field, on, text) (string-entered lent h l filled k m hk hm z is on)
+        go false off = rw (field, off) (missing-entered lent h l filled k m hk hm z is off)
 
-    drawn-step : Drawn t marks range strings g (suc n) (valued d name (recordField (recordOf t) g n))
-    drawn-step =
-        drawn-next lent h l drawn (valued d name (recordField (recordOf t) g n))
+    filled-step : Filled t marks range strings g (suc n) (valued d name (recordField (recordOf t) g n))
+    filled-step =
+        filled-next lent h l filled (valued d name (recordField (recordOf t) g n))
         (elim (decLt n (plainCount (kindNumber g))) [
           | yes plain ↦ plain-step plain
           | no plain ↦ elim (decLt g firstStructure) [
@@ -105,16 +105,16 @@ module _ {t marks range strings : List ℕ} (lent : Lent t marks range strings) 
 
   -- ---- all of them
 
-  drawn-fields : (g : ℕ) → g < groupCount → (d : Draft) → Drawn t marks range strings g 0 d → (n : ℕ) → n ≤ fieldCount (kindNumber g)
-      → Drawn t marks range strings g n (fieldsEntered (recordOf t) g n d)
+  filled-fields : (g : ℕ) → g < groupCount → (d : Draft) → Filled t marks range strings g 0 d → (n : ℕ) → n ≤ fieldCount (kindNumber g)
+      → Filled t marks range strings g n (fieldsEntered (recordOf t) g n d)
   unfolding fieldsEntered
-  drawn-fields g h d drawn zero l = drawn
-  drawn-fields g h d drawn (suc n) l = drawn-step h (omega arith) (drawn-fields g h d drawn n (omega arith))
+  filled-fields g h d filled zero l = filled
+  filled-fields g h d filled (suc n) l = filled-step h (omega arith) (filled-fields g h d filled n (omega arith))
 
-  pub drawn-groups : (g : ℕ) → g ≤ groupCount → Drawn t marks range strings g 0 (groupsEntered (recordOf t) g (blankDraft marks range strings))
+  pub filled-groups : (g : ℕ) → g ≤ groupCount → Filled t marks range strings g 0 (groupsEntered (recordOf t) g (blankDraft marks range strings))
   unfolding groupsEntered
-  drawn-groups zero h = drawn-first lent
-  drawn-groups (suc g) h =
+  filled-groups zero h = filled-first lent
+  filled-groups (suc g) h =
       let before = groupsEntered (recordOf t) g (blankDraft marks range strings) in
-      drawn-turn lent g (omega arith) (fieldsEntered (recordOf t) g (fieldCount (kindNumber g)) before)
-      (drawn-fields g (omega arith) before (drawn-groups g (omega arith)) (fieldCount (kindNumber g)) (omega arith))
+      filled-turn lent g (omega arith) (fieldsEntered (recordOf t) g (fieldCount (kindNumber g)) before)
+      (filled-fields g (omega arith) before (filled-groups g (omega arith)) (fieldCount (kindNumber g)) (omega arith))

@@ -23,12 +23,12 @@ use Rattle.ibft_laws.proofs.NumberingLaws.{nics-most, nics-are, targets-most, t
 use Rattle.build_rules.specs.RecordRange.{largestSize, nicImage}
 use Rattle.build_rules.specs.Rebuild.{targetsIn}
 use Rattle.build_rules.specs.Plan.{isPresent}
 use Rattle.record_text.specs.Fields.{firstStructure}
 use Rattle.record_text.specs.Enter.{groupCount}
-use Rattle.record_text.proofs.Entered.{Seats}
-use Rattle.record_text.proofs.RangePlaceLaws.{Used, used-named, sizeBy}
-use Rattle.record_text.proofs.BlankLaws.{nicsOf, targetsOf}
+use Rattle.record_laws.proofs.Entered.{Seats}
+use Rattle.record_laws.proofs.RangePlaceLaws.{Used, used-named, sizeBy}
+use Rattle.record_laws.proofs.BlankLaws.{nicsOf, targetsOf}
 use Rattle.record_text.proofs.HeldLaws.{holdsGroup, holds-slot, present-held}
 
 pub record Lent (t marks range strings : List ℕ) : Type 0 where
   pub accepted : checkOf t ≡ Accepted
