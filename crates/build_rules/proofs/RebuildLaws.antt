@@ -9,25 +9,24 @@
 --     rebuild-placed                                 the place of a refusal keeps to 24 bits
 -- Assumes nothing.
 use mathlib.Core.Path.{_≡_, refl, sym, ap, _∙_, subst}
-use mathlib.Core.Logic.{inl, inr, ⊎-elim}
+use mathlib.Core.Logic.{⊎-elim}
 use mathlib.Core.Bool.{Bool, true, false}
 use mathlib.Core.List.{List, [], _∷_, _++_}
 use Prim.Native.Nat.{ℕ, _≤_, _<_, _^_}
 use native.Mathlib.Omega.{arith}
-use borrow.Author.Tests.{le-ltb}
 use lib.ListN.{length, take, drop}
 use lib.Dec.{ltb}
 use Rattle.octets.specs.Counting.{gather}
 use Rattle.octets.specs.Octets.{byte, part}
 use Rattle.ibft_table.specs.Layout.{entryCount}
-use Rattle.ibft_table.specs.Verdict.{Test, refuse, firstOf, refusalOf}
-use Rattle.ibft_table.specs.Table.{lengthOf, startsOf, sizeOf, offsetOf, holdsEntry}
+use Rattle.ibft_table.specs.Verdict.{refuse, firstOf, refusalOf}
+use Rattle.ibft_table.specs.Table.{startsOf, sizeOf, offsetOf, holdsEntry}
 use Rattle.ibft_table.specs.Check.{checkTests, checkOf}
 use Rattle.ibft_table.specs.Record.{Record, Content, listed, contentOf, recordOf}
 use Rattle.ibft_table.specs.declared.verdict.Refusal.{Refusal}
 use Rattle.ibft_table.specs.declared.verdict.Verdict.{Verdict}
 use Rattle.ibft_table.specs.declared.verdict.Verdict.the-variants.{Accepted, Refused}
-use Rattle.ibft_table.proofs.VerdictLaws.{accepted-not-refused, accept-none, accept-cons, fail-cons, passes, append-accepted, append-refused, append-passes, append-same, gather-passes, gather-accepts}
+use Rattle.ibft_table.proofs.VerdictLaws.{accepted-not-refused, accept-none, accept-cons, passes, append-accepted, append-refused, append-same, gather-passes, gather-accepts}
 use Rattle.ibft_laws.proofs.PlaceLaws.{check-numbered, place-below}
 use Rattle.ibft_laws.proofs.RecordLaws.{table-holds-same, table-entry-same}
 use Rattle.build_rules.specs.RecordRange.{contentGiven, recordGiven}
@@ -37,14 +36,13 @@ use Rattle.build_rules.specs.TableBytes.{tableOf}
 use Rattle.build_rules.specs.Build.{buildVerdict, answerFrom, answerOf, roomFrom, roomAfter}
 use Rattle.build_rules.specs.Rebuild.{rangeOf, zeroIn, holdsZero, zeroTests, rebuildVerdict, rebuildFrom, rebuildAnswer, rebuiltFrom, rebuildRoom}
 use Rattle.build_rules.specs.Promises.{Serves, Accepts, Room, Promise}
-use Rattle.build_rules.specs.RebuildPromises.{Clean, ReadAndRebuilt, RebuildsTheSame, tableBuilt, TablesTellRecords, Rebuild}
+use Rattle.build_rules.specs.RebuildPromises.{Clean, RebuildsTheSame, tableBuilt, TablesTellRecords, Rebuild}
 use Rattle.build_rules.specs.declared.Built.{Built}
 use Rattle.build_rules.proofs.GoodContent.{Good}
 use Rattle.build_rules.proofs.GoodLaws.{contents-good}
 use Rattle.build_rules.proofs.BuiltLaws.{begins-append}
 use Rattle.build_rules.proofs.BoundLaws.{length-bound}
-use Rattle.build_rules.proofs.BytesLaws.{table-length}
-use Rattle.build_rules.proofs.OutcomeLaws.{Refuses, Wants, Builds, outcome, answer-placed}
+use Rattle.build_rules.proofs.OutcomeLaws.{Builds, outcome, answer-placed}
 use Rattle.build_rules.proofs.SpreadLaws.{spread, given-spread, records-tables}
 use Rattle.build_rules.proofs.ServesLaws.{serves-append}
 use Rattle.build_rules.proofs.PromiseLaws.{promise}

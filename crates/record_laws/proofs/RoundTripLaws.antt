@@ -16,7 +16,7 @@ use Rattle.record_laws.proofs.TextSizeLaws.{text-fits}
 pub enters-what-is-told : EntersWhatIsTold
 enters-what-is-told t range strings small ok large roomy =
     let lent : Lent t (marksTold t) range strings = record { accepted = ok; seats = noted-told t ok small; large = large; roomy = roomy } in
-    subst (ToldAndEntered t range strings) (sym (text-entered t range strings small ok roomy))
+    subst (ToldAndEntered t) (sym (text-entered t range strings small ok roomy))
     (record {
       fits = text-fits t ok small;
       read = refl;

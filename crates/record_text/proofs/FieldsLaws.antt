@@ -1,8 +1,16 @@
 -- Laws of the fields' data, for code that knows them number by number: past the last of a list stands its first.
---     row                            a value by number, where the number is known
+--     row                                    a value by number, where the number is known
 --     group-past, count-past, plain-past     past the last kind
---     notation-past, place-past      past the last field of a group
---     notation-one, place-one        of a group whose fields are alike
+--     count-fits                             how many fields a kind has at most
+--     notation-past, place-past              past the last field of a group
+--     oem-notation, control-notation, control-place     the header's fields and Control's
+--     text-kind, text-entry                  only structures have strings, and which entries they are
+--     secret-string, secret-plain, secret-past     the secrets are those of the layout
+--     names-past                             the names of a kind's fields
+--     digits-short, number-low, index-low    an Index is a byte, of three digits at most
+--     index-none, index-other, index-bad, index-read     what stands behind a kind's name
+--     found-no-kind, found-no-field, found-no-index, found-field, named-nothing, named-found     what a name names, as the code finds it
+--     dotted-none, dotted-some, index-put-none, index-put     a name, as the code puts it
 -- Assumes nothing.
 use mathlib.Core.Path.{_≡_, refl, sym, ap, _∙_}
 use mathlib.Core.List.{List, [], _∷_}
@@ -22,7 +30,7 @@ use Rattle.text.specs.Split.{before, indexOf, same}
 use Rattle.text.specs.Words.{wordNumber}
 use Rattle.notation.specs.Number.{below, number, numberUpTo, answer, digits}
 use Rattle.notation.specs.declared.number.Number.the-variants.{Value, Bad}
-use Rattle.ibft_table.specs.Layout.{Field, field, string, mayShare, firstEntry}
+use Rattle.ibft_table.specs.Layout.{field, string, mayShare, firstEntry}
 use Rattle.record_text.specs.Fields.{
   Group,
   oem,
@@ -48,7 +56,6 @@ use Rattle.record_text.specs.Fields.{
   fieldNamed,
 }
 use Rattle.record_text.specs.Computing.{computing}
-use Rattle.record_text.specs.declared.fields.Notation.{Notation}
 use Rattle.record_text.specs.declared.fields.Notation.the-variants.{Oem, Mode}
 use Rattle.record_text.specs.declared.fields.Found.{Found}
 use Rattle.record_text.specs.declared.fields.Found.the-variants.{Named, Nothing}

@@ -4,10 +4,10 @@
 use Prim.Native.Nat.{ℕ, _+_, _-_}
 use Prim.Native.Char.{code}
 use mathlib.Core.List.{List, [], _∷_, _++_}
-use mathlib.Core.Bool.{Bool, true, false, cond, not, _&&_, _||_}
+use mathlib.Core.Bool.{Bool, true, false, cond, not, _&&_}
 use mathlib.Core.Option.{Option, none, some}
 use lib.ListN.{length, getD, take, drop}
-use lib.Dec.{eqb, leb, ltb}
+use lib.Dec.{eqb, ltb}
 use Rattle.text.specs.Put.{ascii}
 use Rattle.text.specs.Split.{before, indexOf, same}
 use Rattle.text.specs.Words.{wordAt, wordNumber}
@@ -25,7 +25,6 @@ use Rattle.ibft_table.specs.Layout.{
 use Rattle.record_text.specs.declared.fields.Notation.{Notation}
 use Rattle.record_text.specs.declared.fields.Notation.the-variants.{Oem, Mode, Flags, Number, Port, Address, Mac, Pci, Chap, Text}
 use Rattle.record_text.specs.declared.fields.FieldLayout.{FieldLayout}
-use Rattle.record_text.specs.declared.fields.FieldName.{FieldName}
 use Rattle.record_text.specs.declared.fields.Found.{Found}
 use Rattle.record_text.specs.declared.fields.Found.the-variants.{Named, Nothing}
 

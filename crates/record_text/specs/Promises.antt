@@ -33,7 +33,7 @@ abbrev pub longestText : ℕ
 longestText = 65536
 
 -- Told and entered: the text that `tell` writes of the table t, and what `enter` reads it as.
-pub record ToldAndEntered (t range strings : List ℕ) (o : Outcome) : Type 0 where
+pub record ToldAndEntered (t : List ℕ) (o : Outcome) : Type 0 where
   -- the text is not too long
   pub fits : length (tableText false t) ≤ longestText
   -- every line is read
@@ -49,9 +49,10 @@ pub record ToldAndEntered (t range strings : List ℕ) (o : Outcome) : Type 0 wh
 -- .. of every table that the check accepts, where `enter` is lent a range and strings of which no record needs more
 abbrev pub EntersWhatIsTold : Type 0
 EntersWhatIsTold = (t range strings : List ℕ) → Bytes t → checkOf t ≡ Accepted → largestSize ≤ length range → 255 * entryCount ≤ length strings
-    → ToldAndEntered t range strings (enteredFrom (tableText false t) range strings)
+    → ToldAndEntered t (enteredFrom (tableText false t) range strings)
 
--- Two texts that enter the same record are told alike: the tables that are built of them have the same text, secrets hidden or not.
+-- Two texts that enter the same record are told alike: the tables that are built of what they leave have the same text, secrets hidden or not. (It holds
+-- of whatever two outcomes: that `enter` gave them is not needed.)
 abbrev pub ToldAlike : Type 0
 ToldAlike = (o o′ : Outcome) (room room′ : List ℕ) (hide : Bool)
     → (builtAnswer (rangeLeft o) (stringsLeft o) (length room)) .refusal .number ≡ 0

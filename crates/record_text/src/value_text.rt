@@ -18,7 +18,6 @@ use text::words::put_word_set;
 use text::words::word_at;
 ghost use Rattle.text.specs.Put.{Puts};
 ghost use Rattle.text.specs.Words.{wordAt, wordSetText};
-ghost use Rattle.octets.specs.Octets.{byte};
 ghost use Rattle.record_text.specs.Fields.{groupOf};
 ghost use Rattle.record_text.specs.Value.{modes, chapTypes, oemText, valueText, fieldText};
 

@@ -2,7 +2,7 @@
 use mathlib.Core.Path.{_≡_, sym, _∙_}
 use Prim.Native.Nat.{_+_, _-_, _≤_}
 use native.Mathlib.Omega.{arith}
-use lib.ListN.{length, drop, getD}
+use lib.ListN.{length, drop}
 use Rattle.text.specs.Split.{before}
 use Rattle.text.proofs.SplitLaws.{before-stop, before-next, before-end}
 use Rattle.record_text.specs.Fields.{isDigit}

@@ -1,7 +1,6 @@
 -- `index_in` meets its contract. Assumes nothing.
-use mathlib.Core.Path.{_≡_, sym, _∙_, ap}
+use mathlib.Core.Path.{sym, _∙_, ap}
 use mathlib.Core.Bool.{Bool, cond}
-use native.Mathlib.Omega.{arith}
 use Rattle.notation.specs.declared.number.Number.the-variants.{Value, Bad}
 use Rattle.record_text.proofs.FieldsLaws.{index-none, index-other, index-bad, index-read, number-low}
 use borrow.Author.Needs.{needs}

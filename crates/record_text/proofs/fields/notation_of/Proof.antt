@@ -1,5 +1,5 @@
 -- `notation_of` meets its contract, kind by kind. Assumes nothing.
-use mathlib.Core.Path.{_∙_, sym, ap}
+use mathlib.Core.Path.{_∙_, ap}
 use Prim.Native.Nat.{ℕ}
 use Rattle.ibft_table.proofs.LayoutLaws.{last-arm}
 use Rattle.record_text.specs.Fields.{Group, groupOf, notationIn}

@@ -1,5 +1,4 @@
 -- `put_index` meets its contract. Assumes nothing.
-use native.Mathlib.Omega.{arith}
 use Rattle.text.proofs.PutLaws.{puts-same}
 use Rattle.record_text.proofs.FieldsLaws.{index-put-none, index-put}
 use borrow.Author.Needs.{needs}

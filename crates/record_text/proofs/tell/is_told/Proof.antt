@@ -1,5 +1,4 @@
 -- `is_told` meets its contract. Assumes nothing.
-use mathlib.Core.Path.{ap}
 use Rattle.record_text.specs.Tell.{isTold}
 use borrow.Author.Needs.{needs}
 use Rattle.record_text.proofs.tell.is_told.Statement.{statement}

@@ -1,5 +1,5 @@
 -- `put_group` meets its contract, field by field. Assumes nothing.
-use mathlib.Core.Path.{_≡_, refl, sym, ap, _∙_}
+use mathlib.Core.Path.{_≡_, refl, ap, _∙_}
 use mathlib.Core.List.{List, _++_}
 use Prim.Native.Nat.{ℕ, _-_, _≤_}
 use native.Mathlib.Omega.{arith}
@@ -9,7 +9,7 @@ use Rattle.text.specs.Put.{Puts}
 use Rattle.text.proofs.PutLaws.{puts-nothing, puts-same, puts-append}
 use Rattle.ibft_table.specs.Record.{recordOf}
 use Rattle.record_text.specs.Fields.{fieldCount}
-use Rattle.record_text.specs.Tell.{kindNumber, indexHeld, recordField, lineOf, fieldLine, groupText}
+use Rattle.record_text.specs.Tell.{kindNumber, recordField, lineOf, fieldLine, groupText}
 use Rattle.record_text.proofs.TellLaws.{gather-more}
 use borrow.Author.Needs.{needs}
 use Rattle.record_text.proofs.tell.put_group.Statement.{statement}

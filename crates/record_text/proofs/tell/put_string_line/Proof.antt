@@ -1,6 +1,6 @@
 -- `put_string_line` meets its contract: the entry is the string, and its words say where it stands. Assumes nothing.
 use mathlib.Core.Path.{_≡_, sym, ap, _∙_}
-use Prim.Native.Nat.{ℕ, _+_, _-_}
+use Prim.Native.Nat.{_+_, _-_}
 use native.Mathlib.Omega.{arith}
 use borrow.Author.Tests.{not-true, not-false}
 use Rattle.ibft_table.specs.Layout.{firstEntry}

@@ -1,5 +1,4 @@
 -- `tell` meets its contract: the check, then the text. Assumes nothing.
-use mathlib.Core.Path.{sym, _∙_}
 use Rattle.text.proofs.PutLaws.{puts-same}
 use Rattle.record_text.proofs.TellLaws.{text-accepted, text-refused}
 use borrow.Author.Needs.{needs}
