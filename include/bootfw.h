@@ -1,7 +1,8 @@
 /*
  * bootfw.h: the C interface of libbootfw.a, for firmware that looks for an
  * iSCSI Boot Firmware Table (iBFT) in low memory, checks it, builds one or builds
- * again what one holds.
+ * again what one holds; and that looks for, checks or writes the tables for AoE
+ * (aBFT) and SRP (sBFT).
  *
  * docs/C-INTERFACE.md says how to link, what a caller has to keep and how an
  * answer is split. Offsets in comments count bytes from the start of the
@@ -31,7 +32,7 @@
  * is added; MAJOR where a program that was written for an earlier version may
  * have to be changed, and MINOR is 0 then. */
 #define BOOTFW_VERSION_MAJOR 1
-#define BOOTFW_VERSION_MINOR 3
+#define BOOTFW_VERSION_MINOR 4
 #define BOOTFW_VERSION (BOOTFW_VERSION_MAJOR * 0x10000 + BOOTFW_VERSION_MINOR)
 
 /* A layout that differs from the published one must not compile. The array of
@@ -415,19 +416,136 @@ BOOTFW_FIELD(ibft_extra_target, string_present, 54);
 BOOTFW_ASSERT(largest_record, IBFT_RECORD_SIZE(IBFT_MOST_EXTRAS, IBFT_MOST_EXTRAS)
                                   == IBFT_LARGEST_RECORD);
 
+/* ---- The tables for AoE and SRP --------------------------------------------- */
+
+/* An aBFT and an sBFT begin as an iBFT does, but for the signature and for bytes
+ * 24 to 35, which have to be zero. They stand in another window, from address 0 on,
+ * at multiples of IBFT_TABLE_ALIGNMENT too; their Revision is IBFT_REVISION. */
+#define ABFT_SIGNATURE    "aBFT"
+#define SBFT_SIGNATURE    "sBFT"
+#define ABFT_WINDOW_START 0x00000u
+#define ABFT_WINDOW_END   0xA0000u /* as of the iBFT: not an address of the window */
+#define SBFT_WINDOW_START 0x00000u
+#define SBFT_WINDOW_END   0xA0000u
+
+#define ABFT_LENGTH            46u  /* the least that is accepted, and what is written */
+#define SBFT_LEAST_LENGTH      48u  /* the bytes before the parts */
+#define SBFT_LENGTH_WITHOUT_IB 88u  /* what is written where there is no IB part */
+#define SBFT_LENGTH            136u /* what is written where there is one */
+
+/* The table for AoE, and the image of one that is to be written. A write sets what
+ * is marked so, whatever the image has there, and takes the rest. */
+struct abft {
+    uint8_t signature[4];    /* 0: ABFT_SIGNATURE; set by the write */
+    uint32_t length;         /* 4: of the whole table; set by the write */
+    uint8_t revision;        /* 8: IBFT_REVISION; set by the write */
+    uint8_t checksum;        /* 9: all bytes sum to 0 modulo 256; set by the write */
+    uint8_t oem_id[6];       /* 10: zero after the first zero byte */
+    uint8_t oem_table_id[8]; /* 16: zero after the first zero byte */
+    uint8_t reserved[12];    /* 24: zero; set by the write */
+    uint16_t shelf;          /* 36 */
+    uint8_t slot;            /* 38 */
+    uint8_t reserved_39;     /* 39: zero; set by the write */
+    uint8_t mac_address[6];  /* 40: of the network card to boot by */
+} __attribute__((packed));
+
+BOOTFW_SIZE(abft, ABFT_LENGTH);
+BOOTFW_FIELD(abft, signature, 0);
+BOOTFW_FIELD(abft, length, 4);
+BOOTFW_FIELD(abft, revision, 8);
+BOOTFW_FIELD(abft, checksum, 9);
+BOOTFW_FIELD(abft, oem_id, 10);
+BOOTFW_FIELD(abft, oem_table_id, 16);
+BOOTFW_FIELD(abft, reserved, 24);
+BOOTFW_FIELD(abft, shelf, 36);
+BOOTFW_FIELD(abft, slot, 38);
+BOOTFW_FIELD(abft, reserved_39, 39);
+BOOTFW_FIELD(abft, mac_address, 40);
+
+/* The parts of an sBFT. In a table that others wrote they stand at the offsets that
+ * its start has: copy them from there. */
+struct sbft_scsi {
+    uint8_t lun[8]; /* 0: the logical unit number, by the SCSI architecture model */
+} __attribute__((packed));
+
+BOOTFW_SIZE(sbft_scsi, 8);
+BOOTFW_FIELD(sbft_scsi, lun, 0);
+
+struct sbft_srp {
+    uint8_t initiator_port[16]; /* 0 */
+    uint8_t target_port[16];    /* 16 */
+} __attribute__((packed));
+
+BOOTFW_SIZE(sbft_srp, 32);
+BOOTFW_FIELD(sbft_srp, initiator_port, 0);
+BOOTFW_FIELD(sbft_srp, target_port, 16);
+
+struct sbft_ib {
+    uint8_t source_gid[16];      /* 0 */
+    uint8_t destination_gid[16]; /* 16 */
+    uint8_t service[8];          /* 32 */
+    uint16_t partition_key;      /* 40 */
+    uint8_t reserved[6];         /* 42: zero; set by the write */
+} __attribute__((packed));
+
+BOOTFW_SIZE(sbft_ib, 48);
+BOOTFW_FIELD(sbft_ib, source_gid, 0);
+BOOTFW_FIELD(sbft_ib, destination_gid, 16);
+BOOTFW_FIELD(sbft_ib, service, 32);
+BOOTFW_FIELD(sbft_ib, partition_key, 40);
+BOOTFW_FIELD(sbft_ib, reserved, 42);
+
+/* The table for SRP as it is written, and the image of one that is to be written: a
+ * start of SBFT_LEAST_LENGTH bytes, then the three parts. An accepted table begins
+ * with such a start and may have its parts anywhere behind it. */
+struct sbft {
+    uint8_t signature[4];    /* 0: SBFT_SIGNATURE; set by the write */
+    uint32_t length;         /* 4: of the whole table; set by the write */
+    uint8_t revision;        /* 8: IBFT_REVISION; set by the write */
+    uint8_t checksum;        /* 9: all bytes sum to 0 modulo 256; set by the write */
+    uint8_t oem_id[6];       /* 10: zero after the first zero byte */
+    uint8_t oem_table_id[8]; /* 16: zero after the first zero byte */
+    uint8_t reserved[12];    /* 24: zero; set by the write */
+    uint16_t scsi_offset;    /* 36: where the SCSI part starts; set by the write, to 48 */
+    uint16_t srp_offset;     /* 38: where the SRP part starts; set by the write, to 56 */
+    uint16_t ib_offset;      /* 40: where the IB part starts, 0 if it is absent; in an image any
+                              * number but 0 says that it is present; set by the write, to 88 or 0 */
+    uint8_t reserved_42[6];  /* 42: zero; set by the write */
+    struct sbft_scsi scsi;   /* 48 */
+    struct sbft_srp srp;     /* 56 */
+    struct sbft_ib ib;       /* 88: not looked at where ib_offset is 0 */
+} __attribute__((packed));
+
+BOOTFW_SIZE(sbft, SBFT_LENGTH);
+BOOTFW_FIELD(sbft, signature, 0);
+BOOTFW_FIELD(sbft, length, 4);
+BOOTFW_FIELD(sbft, revision, 8);
+BOOTFW_FIELD(sbft, checksum, 9);
+BOOTFW_FIELD(sbft, oem_id, 10);
+BOOTFW_FIELD(sbft, oem_table_id, 16);
+BOOTFW_FIELD(sbft, reserved, 24);
+BOOTFW_FIELD(sbft, scsi_offset, 36);
+BOOTFW_FIELD(sbft, srp_offset, 38);
+BOOTFW_FIELD(sbft, ib_offset, 40);
+BOOTFW_FIELD(sbft, reserved_42, 42);
+BOOTFW_FIELD(sbft, scsi, SBFT_LEAST_LENGTH);
+BOOTFW_FIELD(sbft, srp, 56);
+BOOTFW_FIELD(sbft, ib, SBFT_LENGTH_WITHOUT_IB);
+
 /* ---- Answers --------------------------------------------------------------- */
 
 /* The number of an answer: 0, or why the call refused. A scan gives 1 and 2, a
  * check 3 to 19, 33 and 34, a build 8, 10, 13, 17 to 21, 24, 25, 33 and 34, a rebuild
- * those of a check, 20 and 21. The numbers 22 and 23 belong to readings, which C makes
- * through the structures: no call here gives them. */
+ * those of a check, 20 and 21. Of an aBFT and an sBFT a scan gives 1 and 2, a check 3
+ * to 8 and 30, of an sBFT 31 and 32 too, a write 8 and 21. The numbers 22 and 23 belong
+ * to readings, which C makes through the structures: no call here gives them. */
 enum ibft_refusal {
     IBFT_ACCEPTED = 0,               /* no refusal */
-    IBFT_REFUSED_PAST_WINDOW = 1,    /* scan: address + size above 0x100000 */
+    IBFT_REFUSED_PAST_WINDOW = 1,    /* scan: address + size above the window's end */
     IBFT_REFUSED_NO_TABLE = 2,       /* scan: no sound table in the lent bytes */
-    IBFT_REFUSED_FEW_BYTES = 3,      /* fewer than 48 bytes lent */
-    IBFT_REFUSED_SIGNATURE = 4,      /* the first four bytes are not iBFT */
-    IBFT_REFUSED_LENGTH = 5,         /* Length under 66 or above the bytes lent */
+    IBFT_REFUSED_FEW_BYTES = 3,      /* fewer than 48 bytes lent, for an aBFT than 46 */
+    IBFT_REFUSED_SIGNATURE = 4,      /* the first four bytes are not the family's */
+    IBFT_REFUSED_LENGTH = 5,         /* Length under 66, 46 or 48, or above the bytes lent */
     IBFT_REFUSED_SUM = 6,            /* the table's bytes do not sum to 0 modulo 256 */
     IBFT_REFUSED_REVISION = 7,       /* Revision is not 1 */
     IBFT_REFUSED_OEM_TAIL = 8,       /* an OEM field goes on after its first zero byte */
@@ -443,11 +561,14 @@ enum ibft_refusal {
     IBFT_REFUSED_HOST_NAME = 18,     /* a host name is not of the form */
     IBFT_REFUSED_CHAP_TYPE = 19,     /* CHAP type above 2 */
     IBFT_REFUSED_ENTRY_ZERO = 20,    /* build, rebuild: a zero byte in a string */
-    IBFT_REFUSED_ROOM = 21,          /* build, rebuild: the least Length exceeds the room */
-    IBFT_REFUSED_MISSING = 22,       /* reading: structure or string not there */
+    IBFT_REFUSED_ROOM = 21,          /* build, rebuild, write: Length exceeds the room */
+    IBFT_REFUSED_MISSING = 22,       /* reading: structure, string or part not there */
     IBFT_REFUSED_NO_SUCH = 23,       /* reading: slot above 16 or entry above 48 */
     IBFT_REFUSED_ENTRY_OUTSIDE = 24, /* build: a string ends past the range lent for strings */
     IBFT_REFUSED_RECORD = 25,        /* build: record of another size, or a mark not 0 or 1 */
+    IBFT_REFUSED_RESERVED = 30,      /* aBFT, sBFT: a reserved byte is not zero */
+    IBFT_REFUSED_PART_PLACE = 31,    /* sBFT: a part starts below 48 or ends past Length */
+    IBFT_REFUSED_PART_OVERLAP = 32,  /* sBFT: a part shares a byte with an earlier one */
     IBFT_REFUSED_SAME_INDEX = 33,    /* an extra's Index is taken; build: or not ascending */
     IBFT_REFUSED_SEVENTH_EXTRA = 34  /* a seventh extra NIC or extra target */
 };
@@ -460,11 +581,11 @@ static inline const char *ibft_refusal_text(unsigned number)
 {
     switch (number) {
     case IBFT_ACCEPTED:              return "accepted";
-    case IBFT_REFUSED_PAST_WINDOW:   return "the memory reaches above 0x100000";
+    case IBFT_REFUSED_PAST_WINDOW:   return "the memory reaches above the window's end";
     case IBFT_REFUSED_NO_TABLE:      return "no sound table in the memory";
-    case IBFT_REFUSED_FEW_BYTES:     return "fewer than 48 bytes: no whole header";
-    case IBFT_REFUSED_SIGNATURE:     return "the signature is not iBFT";
-    case IBFT_REFUSED_LENGTH:        return "Length is under 66 or above the bytes lent";
+    case IBFT_REFUSED_FEW_BYTES:     return "too few bytes for a whole header";
+    case IBFT_REFUSED_SIGNATURE:     return "the signature is not the table's";
+    case IBFT_REFUSED_LENGTH:        return "Length is too small or above the bytes lent";
     case IBFT_REFUSED_SUM:           return "the table's bytes do not sum to 0 modulo 256";
     case IBFT_REFUSED_REVISION:      return "Revision is not 1";
     case IBFT_REFUSED_OEM_TAIL:      return "an OEM field goes on after a zero byte";
@@ -481,10 +602,13 @@ static inline const char *ibft_refusal_text(unsigned number)
     case IBFT_REFUSED_CHAP_TYPE:     return "a CHAP type is above 2";
     case IBFT_REFUSED_ENTRY_ZERO:    return "a string to build holds a zero byte";
     case IBFT_REFUSED_ROOM:          return "the record's shortest table exceeds the room";
-    case IBFT_REFUSED_MISSING:       return "the structure or string is missing";
+    case IBFT_REFUSED_MISSING:       return "the structure, string or part is missing";
     case IBFT_REFUSED_NO_SUCH:       return "there is no such slot or entry";
     case IBFT_REFUSED_ENTRY_OUTSIDE: return "a string ends past the range lent for strings";
     case IBFT_REFUSED_RECORD:        return "the record's size or a presence mark is wrong";
+    case IBFT_REFUSED_RESERVED:      return "a reserved byte is not zero";
+    case IBFT_REFUSED_PART_PLACE:    return "a part starts below 48 or ends past Length";
+    case IBFT_REFUSED_PART_OVERLAP:  return "a part overlaps an earlier one";
     case IBFT_REFUSED_SAME_INDEX:    return "an extra's Index is taken, or does not ascend";
     case IBFT_REFUSED_SEVENTH_EXTRA: return "a seventh extra NIC or extra target";
     default:                         return "no refusal has this number";
@@ -499,19 +623,21 @@ static inline uint8_t ibft_answer_number(uint64_t answer)
 }
 
 /* Of a scan: the address of the table's first byte; 0 when refused. A scan's
- * place is always 0 and takes no bits. */
+ * place is always 0 and takes no bits. An aBFT or sBFT may stand at address 0: whether
+ * one was found, the number tells. */
 static inline uint32_t ibft_answer_address(uint64_t answer)
 {
     return (uint32_t)(answer >> 8) & 0xFFFFFFu;
 }
 
-/* Of a check, a build or a rebuild: where the fault is; 0 when accepted. */
+/* Of a check, a build, a rebuild or a write: where the fault is; 0 when accepted. */
 static inline uint32_t ibft_answer_place(uint64_t answer)
 {
     return (uint32_t)(answer >> 8) & 0xFFFFFFu;
 }
 
-/* Of a scan, a build or a rebuild: the table's Length in bytes; 0 when refused. */
+/* Of a scan, a build, a rebuild or a write: the table's Length in bytes; 0 when
+ * refused. */
 static inline uint32_t ibft_answer_length(uint64_t answer)
 {
     return (uint32_t)(answer >> 32);
@@ -562,6 +688,33 @@ uint64_t ibft_build(const uint8_t *record, size_t record_size,
  * byte; or 21. When refused, Length is 0 and nothing is written. */
 uint64_t ibft_rebuild(const uint8_t *table, size_t table_size,
                       uint8_t *room, size_t room_size) BOOTFW_CALL;
+
+/* Look for the lowest sound aBFT or sBFT in the lent bytes, as ibft_scan does for an
+ * iBFT, in the window of ABFT_WINDOW_END and SBFT_WINDOW_END: lent bytes that go past
+ * it are refused with 1. A table may be found at address 0. Write nothing. */
+uint64_t abft_scan(const uint8_t *memory, size_t memory_size, uint64_t address) BOOTFW_CALL;
+uint64_t sbft_scan(const uint8_t *memory, size_t memory_size, uint64_t address) BOOTFW_CALL;
+
+/* Check the table that starts with the first of the lent bytes; more may be lent
+ * than its Length, which may be above the least. Answer 0 with place 0; or the first
+ * refusal that applies, with its place: 3 to 8, then 30 for the lowest reserved byte
+ * that is not zero; of an sBFT then 31 and 32 for the first such part, of SCSI, SRP and
+ * IB, at its offset word, then 30 for the reserved bytes of the IB part, at a place of
+ * up to 65,582. Bits 32-63 are 0. Write nothing. */
+uint64_t abft_check(const uint8_t *table, size_t table_size) BOOTFW_CALL;
+uint64_t sbft_check(const uint8_t *table, size_t table_size) BOOTFW_CALL;
+
+/* Write the table of an image, a struct abft or struct sbft, into the room. Bytes of
+ * the image that are not lent are taken for zero, more than the struct's are not looked
+ * at. The room shares no byte with the image: that is taken on trust. Answer 0 with
+ * place 0 and the table's Length, ABFT_LENGTH, SBFT_LENGTH or SBFT_LENGTH_WITHOUT_IB,
+ * and the room past that keeps its bytes; or 8 with 10 or 16, the OEM field that goes on
+ * after a zero byte, then 21 if Length exceeds the room, with Length 0, and write
+ * nothing. */
+uint64_t abft_write(const uint8_t *image, size_t image_size,
+                    uint8_t *room, size_t room_size) BOOTFW_CALL;
+uint64_t sbft_write(const uint8_t *image, size_t image_size,
+                    uint8_t *room, size_t room_size) BOOTFW_CALL;
 
 #ifdef __cplusplus
 }

@@ -5,6 +5,7 @@
 //! the compiler can neither inline the callee nor know that a second call answers the same.
 
 mod benchmark_build;
+mod benchmark_families;
 mod benchmark_rebuild;
 #[allow(dead_code)] // compare.rs uses all of it
 mod library;
@@ -19,6 +20,7 @@ mod seeded;
 #[allow(dead_code)]
 mod table_maker;
 mod twin_check;
+mod twin_families;
 mod twins;
 
 use seeded::Seeded;
@@ -202,4 +204,5 @@ fn main() {
     measure_checks_with_extras();
     benchmark_build::measure_builds();
     benchmark_rebuild::measure_rebuilds();
+    benchmark_families::measure_families();
 }

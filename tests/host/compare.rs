@@ -1,10 +1,10 @@
-//! Compares what the static libraries and the programs `show`, `tell` and `enter` answer with
+//! Compares what the static libraries and the programs `show`, `tell`, `enter` and `find` answer with
 //! independent readings of RULES.md and docs/RECORD-FORMAT.md, on seeded inputs. Prints how often
 //! each answer was met; exits 1 at the first difference.
 //!
 //! The readings are the files model_*.rs, written from the documents alone; a call that is exported
-//! later gets its reading and its comparison beside these. The environment variables SHOW, TELL and
-//! ENTER name the programs.
+//! later gets its reading and its comparison beside these. The environment variables SHOW, TELL,
+//! ENTER and FIND name the programs.
 
 mod build_causes;
 mod build_refusals;
@@ -13,6 +13,10 @@ mod causes;
 mod compare_build;
 mod compare_check;
 mod compare_checksum;
+mod compare_families;
+mod compare_family_scans;
+mod compare_family_text;
+mod compare_family_writes;
 mod compare_host_name;
 mod compare_least;
 mod compare_login;
@@ -24,6 +28,10 @@ mod compare_tail;
 mod compare_text;
 mod compare_views;
 mod compare_wipe;
+mod family_damage;
+mod family_maker;
+mod family_refusals;
+mod family_texts;
 mod field_maker;
 mod good_records;
 mod good_tables;
@@ -37,11 +45,14 @@ mod lent_memory;
 mod lent_room;
 mod lent_table;
 mod library;
+mod model_abft;
 mod model_answer;
 mod model_build;
 mod model_check;
 mod model_checksum;
 mod model_enter_tell;
+mod model_family_text;
+mod model_header;
 mod model_host_name;
 mod model_layout;
 mod model_login;
@@ -50,6 +61,7 @@ mod model_readings;
 mod model_rebuild;
 mod model_record;
 mod model_record_range;
+mod model_sbft;
 mod model_scan;
 mod model_show;
 mod model_tail;
@@ -90,7 +102,11 @@ fn main() {
         && compare_build::compare()
         && compare_least::compare()
         && compare_rebuild::compare()
-        && compare_wipe::compare();
+        && compare_wipe::compare()
+        && compare_family_scans::compare()
+        && compare_families::compare()
+        && compare_family_writes::compare()
+        && compare_family_text::compare();
     if !all_agree {
         std::process::exit(1);
     }

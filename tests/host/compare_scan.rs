@@ -3,7 +3,7 @@
 use crate::lent_memory::{LentMemory, HEADER, WINDOW_END, WINDOW_START};
 use crate::library;
 use crate::model_answer;
-use crate::model_scan;
+use crate::model_scan::IBFT;
 use crate::seeded::Seeded;
 use crate::tally::Tally;
 
@@ -408,7 +408,7 @@ fn some_of_each(seeded: &mut Seeded) -> LentMemory {
 
 /// One input: true if the library's answer is the reading's and no byte has changed.
 fn compare_one(shape: &'static str, seed: u64, memory: &mut LentMemory, tally: &mut Tally) -> bool {
-    let expected = model_scan::scan(memory.bytes(), memory.address);
+    let expected = IBFT.scan(memory.bytes(), memory.address);
     let (answer, kept) = memory.scanned_by(library::ibft_scan);
     if answer == expected && kept {
         tally.count(shape, model_answer::number(answer) as usize);

@@ -74,13 +74,14 @@ pub fn string_of_note(seeded: &mut Seeded) -> Vec<u8> {
 }
 
 /// A value of the notation, of the bytes that it has in a structure; none for strings.
-fn any_of_note(seeded: &mut Seeded, notation: Notation) -> Option<Vec<u8>> {
+pub fn any_of_note(seeded: &mut Seeded, notation: Notation) -> Option<Vec<u8>> {
     match notation {
         Notation::Flags(words) => Some(vec![seeded.byte() & ((1 << words.len()) - 1)]),
         Notation::Choice(words) => Some(vec![seeded.between(0, words.len() - 1) as u8]),
         Notation::Address => Some(address_of_note(seeded)),
         Notation::Number(width) => Some(number_of_note(seeded, width)),
         Notation::Mac => Some(bytes_of_note(seeded, 6)),
+        Notation::Pairs(count) => Some(bytes_of_note(seeded, count)),
         Notation::Pci => Some(bytes_of_note(seeded, 2)),
         Notation::Text | Notation::Filled(_) => None,
     }

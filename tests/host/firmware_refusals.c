@@ -223,14 +223,14 @@ static const struct {
     unsigned number;
     const char *words;
 } said[] = {
-    { 0, "accepted" }, { 1, "0x100000" }, { 2, "no sound table" }, { 3, "48 bytes" },
+    { 0, "accepted" }, { 1, "window's end" }, { 2, "no sound table" }, { 3, "whole header" },
     { 4, "signature" }, { 5, "Length is" }, { 6, "sum" }, { 7, "Revision" }, { 8, "OEM" },
     { 9, "Control" }, { 10, "flag bit" }, { 11, "Extensions" }, { 12, "misaligned" },
     { 13, "structure's ID" }, { 14, "share" }, { 15, "heap" }, { 16, "follows a string" },
     { 17, "too long" }, { 18, "host name" }, { 19, "CHAP type" }, { 20, "holds a zero byte" },
     { 21, "exceeds the room" }, { 22, "is missing" }, { 23, "no such slot" },
-    { 24, "range lent for strings" }, { 25, "presence mark" }, { 33, "is taken" },
-    { 34, "a seventh" }
+    { 24, "range lent for strings" }, { 25, "presence mark" }, { 30, "reserved byte" },
+    { 31, "below 48" }, { 32, "overlaps" }, { 33, "is taken" }, { 34, "a seventh" }
 };
 
 enum { NUMBERS = sizeof said / sizeof said[0] };
@@ -260,7 +260,7 @@ static void words_each_refusal(void)
 
         expect(text[0] != '\0' && strchr(text, '\n') == NULL, "a text is one line");
         expect(has_own_text(number) == is_said(number),
-               "0 to 25, 33 and 34 have a text, no other number");
+               "0 to 25 and 30 to 34 have a text, no other number");
     }
     for (i = 0; i < NUMBERS; i++)
         for (other = 0; other <= i; other++)

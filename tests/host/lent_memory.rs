@@ -102,7 +102,12 @@ impl LentMemory {
     /// The signature, `claimed` in the Length field, and a sum of 0 over `summed` bytes, as far as
     /// there are any.
     pub fn lay_claiming(&mut self, offset: isize, claimed: u32, summed: usize) {
-        self.write(offset, b"iBFT");
+        self.lay_of(b"iBFT", offset, claimed, summed);
+    }
+
+    /// The same with the signature of any family.
+    pub fn lay_of(&mut self, signature: &[u8; 4], offset: isize, claimed: u32, summed: usize) {
+        self.write(offset, signature);
         self.write(offset + 4, &claimed.to_le_bytes());
         self.balance(offset, summed);
     }

@@ -16,6 +16,11 @@ pub type Index = unsafe extern "C" fn(*const u8, usize, u8) -> u8;
 /// A build: record, strings and room.
 pub type Build = unsafe extern "C" fn(*const u8, usize, *const u8, usize, *mut u8, usize) -> u64;
 
+/// A scan: memory and its address. A check. A write of an aBFT or an sBFT: image and room.
+pub type Scan = unsafe extern "C" fn(*const u8, usize, u64) -> u64;
+pub type Check = unsafe extern "C" fn(*const u8, usize) -> u64;
+pub type Write = unsafe extern "C" fn(*const u8, usize, *mut u8, usize) -> u64;
+
 extern "C" {
     pub fn ibft_scan(memory: *const u8, memory_size: usize, address: u64) -> u64;
     pub fn ibft_check(table: *const u8, table_size: usize) -> u64;
@@ -28,6 +33,13 @@ extern "C" {
         room_size: usize,
     ) -> u64;
     pub fn ibft_rebuild(table: *const u8, table_size: usize, room: *mut u8, room_size: usize) -> u64;
+
+    pub fn abft_scan(memory: *const u8, memory_size: usize, address: u64) -> u64;
+    pub fn abft_check(table: *const u8, table_size: usize) -> u64;
+    pub fn abft_write(image: *const u8, image_size: usize, room: *mut u8, room_size: usize) -> u64;
+    pub fn sbft_scan(memory: *const u8, memory_size: usize, address: u64) -> u64;
+    pub fn sbft_check(table: *const u8, table_size: usize) -> u64;
+    pub fn sbft_write(image: *const u8, image_size: usize, room: *mut u8, room_size: usize) -> u64;
 
     pub fn test_host_name(name: *const u8, name_size: usize) -> u8;
     pub fn test_checksum(bytes: *const u8, size: usize, at: usize) -> u8;
@@ -49,6 +61,12 @@ extern "C" {
     pub fn test_initiator(table: *const u8, size: usize, out: *mut u8, out_size: usize) -> u64;
     pub fn test_nic(table: *const u8, size: usize, n: u8, out: *mut u8, out_size: usize) -> u64;
     pub fn test_target(table: *const u8, size: usize, n: u8, out: *mut u8, out_size: usize) -> u64;
+    pub fn test_abft(table: *const u8, size: usize, out: *mut u8, out_size: usize) -> u64;
+    pub fn test_sbft_start(table: *const u8, size: usize, out: *mut u8, out_size: usize) -> u64;
+    pub fn test_sbft_scsi(table: *const u8, size: usize, out: *mut u8, out_size: usize) -> u64;
+    pub fn test_sbft_srp(table: *const u8, size: usize, out: *mut u8, out_size: usize) -> u64;
+    pub fn test_sbft_ib(table: *const u8, size: usize, out: *mut u8, out_size: usize) -> u64;
+    pub fn test_sbft_part_view(table: *const u8, size: usize, part: u8, out: *mut u8, out_size: usize) -> usize;
     pub fn test_address_kind(address: *const u8, size: usize) -> u64;
     pub fn test_pci(word: u16) -> u64;
 }

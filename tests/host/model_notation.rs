@@ -24,6 +24,8 @@ pub enum Notation {
     /// A number of so many bytes.
     Number(usize),
     Mac,
+    /// So many pairs of hexadecimal digits, with colons between.
+    Pairs(usize),
     Pci,
     Text,
     /// A string of at most so many bytes, kept with zeros behind it.
@@ -44,6 +46,7 @@ impl Notation {
             Address => 16,
             Number(width) => width,
             Mac => 6,
+            Pairs(count) => count,
             Pci => 2,
             Filled(size) => size,
             Text => panic!("a string has no size of its own"),
@@ -65,7 +68,8 @@ impl Notation {
                 let fits = bytes[width..].iter().all(|byte| *byte == 0);
                 fits.then(|| bytes[..width].to_vec())
             }
-            Mac => read_mac(value),
+            Mac => read_pairs(value, 6),
+            Pairs(count) => read_pairs(value, count),
             _ => Some(read_pci(value)?.to_le_bytes().to_vec()),
         }
     }
@@ -78,6 +82,7 @@ impl Notation {
             Address => "an IP address".to_string(),
             Number(width) => format!("a number from 0 to {}", u64::MAX >> (64 - 8 * width)),
             Mac => "a MAC address, as 02:00:5e:10:00:07".to_string(),
+            Pairs(count) => format!("{} pairs of hexadecimal digits with colons between", count),
             Pci => "a PCI address, as 00:03.1".to_string(),
             Text | Filled(_) => concat!(
                 r"a string: a backslash starts \\ or \xHH, bytes below 0x20 are written \xHH, ",
@@ -95,7 +100,7 @@ impl Notation {
             Choice(words) => words[usize::from(value[0])].to_string(),
             Address => written_address(value),
             Number(width) => number(value, 0, width as u64).to_string(),
-            Mac => {
+            Mac | Pairs(_) => {
                 let pairs: Vec<String> = value.iter().map(|b| format!("{:02x}", b)).collect();
                 pairs.join(":")
             }
@@ -154,9 +159,9 @@ fn read_address(value: &str) -> Option<Ipv6Addr> {
     }
 }
 
-fn read_mac(value: &str) -> Option<Vec<u8>> {
+fn read_pairs(value: &str, count: usize) -> Option<Vec<u8>> {
     let pairs: Option<Vec<u8>> = value.split(':').map(|pair| read_hex(pair, 2)).collect();
-    pairs.filter(|bytes| bytes.len() == 6)
+    pairs.filter(|bytes| bytes.len() == count)
 }
 
 fn read_pci(value: &str) -> Option<u16> {

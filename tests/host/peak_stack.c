@@ -1,8 +1,8 @@
 /*
  * The peak stack of the exported calls, of the readings, of the host name check and
  * of the tail test, on a painted stack of their own; on tables and records without
- * extras and with twelve. Exits 1 at 2 KiB, of the rebuild at 3 KiB: the firmware's
- * stack is 4 KiB.
+ * extras and with twelve. Exits 1 at 2 KiB, of the rebuild at 3 KiB, of the calls of
+ * an aBFT and an sBFT at 1 KiB: the firmware's stack is 4 KiB.
  *
  * What counts is the way from the caller's stack pointer down to the deepest
  * byte written, the call's return address included. A byte written with the
@@ -351,6 +351,7 @@ int main(void)
     measure_builds();
     measure_rebuilds();
     measure_readings();
+    measure_families();
     measure_host_name("host name, 255 bytes with 127 dots", 255);
     measure_host_name("host name, 20001 bytes with 10000 dots", sizeof name);
     measure_tail("tail test, 253 bytes that agree", 255);

@@ -5,7 +5,7 @@
 #include <stddef.h>
 #include <stdint.h>
 
-/* Under 2 KiB for every call but the rebuild, which has a limit of its own. */
+/* Under 2 KiB for every call but the rebuild and those of an aBFT and an sBFT, which have limits of their own. */
 enum { CALL_LIMIT = 2047 };
 
 /* Extras of each kind, where there are any, and NICs and targets with them; the greatest Length without
@@ -35,5 +35,6 @@ void expect_length(size_t length, size_t expected);
 void measure_builds(void);
 void measure_rebuilds(void);
 void measure_readings(void);
+void measure_families(void);
 
 #endif

@@ -1,4 +1,4 @@
-//! The tables of samples/, and what `show` and `tell` print for each.
+//! The tables of samples/, and what `show` and `tell` print for each: iBFTs, then those of the other families.
 
 pub struct Sample {
     pub name: &'static str,
@@ -9,9 +9,12 @@ pub struct Sample {
 
 macro_rules! sample {
     ($name:literal) => {
+        sample!($name, ".ibft")
+    };
+    ($name:literal, $family:literal) => {
         Sample {
             name: $name,
-            table: include_bytes!(concat!("../../samples/", $name, ".ibft")),
+            table: include_bytes!(concat!("../../samples/", $name, $family)),
             shown: include_str!(concat!("../../samples/", $name, ".txt")),
             told: include_str!(concat!("../../samples/", $name, ".record")),
         }
@@ -26,3 +29,6 @@ pub const SAMPLES: [Sample; 6] = [
     sample!("ovmf-one-target"),
     sample!("depot-controller"),
 ];
+
+pub const ABFT_SAMPLE: Sample = sample!("ipxe-aoe", ".abft");
+pub const SBFT_SAMPLE: Sample = sample!("srp-one-target", ".sbft");

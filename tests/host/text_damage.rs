@@ -269,7 +269,7 @@ fn value_byte(seeded: &mut Seeded, lines: &mut Vec<Line>) {
     }
 }
 
-fn change_byte(seeded: &mut Seeded, bytes: &mut Vec<u8>) {
+pub fn change_byte(seeded: &mut Seeded, bytes: &mut Vec<u8>) {
     let any = seeded.byte();
     let byte = seeded.one_of(b"0189afgAFGx:.-+\\\"# \t\r\n\0\x1F\x7F\xFF");
     let byte = seeded.one_of(&[byte, byte, byte, any]);

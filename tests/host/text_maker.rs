@@ -74,7 +74,7 @@ pub fn any_value(seeded: &mut Seeded, notation: Notation, value: &[u8]) -> Vec<u
         Notation::Choice(words) => words[usize::from(value[0])].to_string(),
         Notation::Address => any_address(seeded, value.try_into().unwrap()),
         Notation::Number(width) => any_number(seeded, number(value, 0, width as u64)),
-        Notation::Mac | Notation::Pci => any_case(seeded, &notation.written(value)),
+        Notation::Mac | Notation::Pairs(_) | Notation::Pci => any_case(seeded, &notation.written(value)),
     };
     text.into_bytes()
 }

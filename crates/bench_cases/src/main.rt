@@ -19,12 +19,12 @@ use ibft_table::layout::owner_of;
 use ibft_table::layout::string_of;
 use ibft_table::nic::Nic;
 use ibft_table::target::Target;
-use ibft_table::verdict::Verdict;
 use octets::read::byte_at;
 use octets::read::part;
 use octets::write::put_byte;
 use octets::write::put_bytes;
 use octets::write::put_u16;
+use table_header::verdict::Verdict;
 
 // Where the record range has its marks and images.
 const SLOT_MARKS: usize = MARKS_AT as usize;

@@ -1,27 +1,31 @@
 -- What the calls for C promise. Nothing but the promises stands here.
 use mathlib.Core.List.{List}
 use Prim.Native.Nat.{ℕ}
-use Rattle.scan.specs.Scan.{ibft, scanOf}
+use lib.ListN.{length}
+use Rattle.scan.specs.Scan.{scanOf}
 use Rattle.scan.specs.Promises.{Promise}
-use Rattle.ibft_table.specs.Verdict.{refusalOf}
-use Rattle.ibft_table.specs.Check.{checkOf}
-use Rattle.ibft_table.specs.Promises.{Check}
+use Rattle.scan.specs.declared.Family.{Family}
+use Rattle.table_header.specs.Verdict.{Test, refusalOf}
+use Rattle.table_header.specs.Promises.{Judges}
+use Rattle.table_header.specs.declared.verdict.Verdict.{Verdict}
+use Rattle.table_header.specs.declared.write.Written.{Written}
 use Rattle.build_rules.specs.Build.{answerOf}
 use Rattle.build_rules.specs.Promises.{Promise as Build}
 use Rattle.build_rules.specs.Rebuild.{rebuildAnswer}
 use Rattle.build_rules.specs.RebuildPromises.{Rebuild}
-use lib.ListN.{length}
 use Rattle.bootfw.specs.Pack.{Packs}
 
--- `ibft_scan`: the scan's answer, packed; and what a scan promises of it (lowest, sound, exact refusals)
-pub record ScanAnswer (memory : List ℕ) (address r : ℕ) : Type 0 where
-  pub answer : Packs ((scanOf ibft memory address) .number) ((scanOf ibft memory address) .address) ((scanOf ibft memory address) .length) r
-  pub promise : Promise ibft memory address (scanOf ibft memory address)
+-- `ibft_scan`, `abft_scan`, `sbft_scan`: the answer of the family's scan, packed; and what a scan promises of it (lowest, sound, exact refusals). The
+-- number tells whether a table was found: for two of the families 0 is an address like any other.
+pub record ScanAnswer (f : Family) (memory : List ℕ) (address r : ℕ) : Type 0 where
+  pub answer : Packs ((scanOf f memory address) .number) ((scanOf f memory address) .address) ((scanOf f memory address) .length) r
+  pub promise : Promise f memory address (scanOf f memory address)
 
--- `ibft_check`: the number and place of the check's verdict, packed, with 0 in bits 32 to 63; and what the check promises of it
-pub record CheckAnswer (table : List ℕ) (r : ℕ) : Type 0 where
-  pub answer : Packs ((refusalOf (checkOf table)) .number) ((refusalOf (checkOf table)) .place) 0 r
-  pub promise : Check table (checkOf table)
+-- `ibft_check`, `abft_check`, `sbft_check`: the number and place of the verdict of the family's tests, packed, with 0 in bits 32 to 63; and what a
+-- check promises of it
+pub record CheckAnswer (tests : List Test) (judged : Verdict) (r : ℕ) : Type 0 where
+  pub answer : Packs ((refusalOf judged) .number) ((refusalOf judged) .place) 0 r
+  pub promise : Judges tests judged judged
 
 -- `ibft_build`: the build's number, place and Length, packed; and what the build promises of the answer and of the room that held
 -- `before` and holds `after`
@@ -36,3 +40,9 @@ pub record RebuildAnswer (table before after : List ℕ) (r : ℕ) : Type 0 wher
   pub answer : Packs ((rebuildAnswer table (length before)) .refusal .number) ((rebuildAnswer table (length before)) .refusal .place)
       ((rebuildAnswer table (length before)) .length) r
   pub promise : Rebuild table before (rebuildAnswer table (length before)) after
+
+-- `abft_write`, `sbft_write`: number, place and Length of what the family's write answers, packed; and what the family promises of that
+-- answer (`Write` of its Promises)
+pub record WriteAnswer (written : Written) (promise-of : Written → Type 0) (r : ℕ) : Type 0 where
+  pub answer : Packs (written .refusal .number) (written .refusal .place) (written .length) r
+  pub promise : promise-of written

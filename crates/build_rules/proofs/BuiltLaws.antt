@@ -30,7 +30,8 @@ use Rattle.string_heap.specs.Places.{len, heapTo, place}
 use Rattle.string_heap.proofs.TailsLaws.{Stands, stands-lies, stands-part}
 use Rattle.string_heap.proofs.HostLaws.{heap-length, placed}
 use Rattle.ibft_table.specs.Layout.{Kind, control, kindOf, firstEntry, slotCount, entryCount, namedCount, extraNics, extraTargets, controlEnd, slotAt, builtSlot, controlAt, extensionsAt, wordAt, chapAt, ownerOf, mayShare}
-use Rattle.ibft_table.specs.Table.{lengthOf, controlLength, controlEndOf, extraWords, wordCount, startAt, usedAt, kindAt, endAt, startsOf, startIn, startOf, presentIn, present, endIn, endOf, heapOf, fieldIn, fieldOf, sizeIn, sizeOf, offsetIn, offsetOf, holdsIn, holdsEntry}
+use Rattle.table_header.specs.Header.{lengthOf}
+use Rattle.ibft_table.specs.Table.{controlLength, controlEndOf, extraWords, wordCount, startAt, usedAt, kindAt, endAt, startsOf, startIn, startOf, presentIn, present, endIn, endOf, heapOf, fieldIn, fieldOf, sizeIn, sizeOf, offsetIn, offsetOf, holdsIn, holdsEntry}
 use Rattle.ibft_table.proofs.SeatLaws.{named-at}
 use Rattle.ibft_laws.proofs.SeatLaws.{slot-kind}
 use Rattle.ibft_laws.proofs.SeatBackLaws.{Laid, slot-back, extra-back, start-back as laid-start, start-none as laid-none}

@@ -19,14 +19,14 @@ use Rattle.octets.specs.Counting.{any, sumTo}
 use Rattle.octets.proofs.CountingLaws.{each-holds}
 use Rattle.octets.proofs.CountLaws.{count-same}
 use Rattle.ibft_table.specs.Layout.{Kind, initiator, nic, target, slotCount, entryCount, namedCount, extraMost, extraNics, kindOf, nicSlot, targetSlot, ownerOf, stringOf, namedEntries, firstEntry, closed, entryNumber}
-use Rattle.ibft_table.specs.Verdict.{refusalOf}
+use Rattle.table_header.specs.Verdict.{refusalOf}
 use Rattle.ibft_table.specs.Table.{startsOf, nicsIn, present}
 use Rattle.ibft_table.specs.Check.{checkOf}
 use Rattle.ibft_table.specs.Record.{Record, shownIf, recordOf}
 use Rattle.ibft_table.specs.Readings.{textAt, initiatorIn, nicIn, targetIn, slotCalled, entryCalled, structureFrom, structureGot, structureOf, initiatorOf, nicOf, targetOf, entryFrom, entryGot, entryOf, viewOf}
 use Rattle.ibft_table.specs.declared.structure.StructureReading.{StructureReading}
-use Rattle.ibft_table.specs.declared.verdict.Verdict.{Verdict}
-use Rattle.ibft_table.specs.declared.verdict.Verdict.the-variants.{Accepted}
+use Rattle.table_header.specs.declared.verdict.Verdict.{Verdict}
+use Rattle.table_header.specs.declared.verdict.Verdict.the-variants.{Accepted}
 use Rattle.ibft_table.specs.Computing.{computing}
 use Rattle.ibft_table.proofs.LayoutLaws.{nic-past, target-past}
 use Rattle.ibft_laws.proofs.LayoutLaws.{slot-entry, slot-entry-owner, slot-entry-place}

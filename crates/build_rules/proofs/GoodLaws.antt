@@ -20,11 +20,12 @@ use Rattle.octets.proofs.CountingLaws.{any-none, clash}
 use Rattle.octets.proofs.ReadLaws.{byte-past, part-length, part-at}
 use Rattle.octets.proofs.TestLaws.{and-both, and-other, and-no, differs-no}
 use Rattle.ibft_table.specs.Layout.{Kind, nic, target, kindOf, indexOf, chapAt, slotCount, entryCount, namedCount, extraMost, extraNics, extraTargets, leastIndex, ownerOf, stringOf}
-use Rattle.ibft_table.specs.Verdict.{firstOf}
-use Rattle.ibft_table.specs.Check.{padded, reservedSet}
+use Rattle.table_header.specs.Verdict.{firstOf}
+use Rattle.table_header.specs.Header.{padded}
+use Rattle.ibft_table.specs.Check.{reservedSet}
 use Rattle.ibft_table.specs.Record.{shownIf, bodySize}
-use Rattle.ibft_table.specs.declared.verdict.Verdict.the-variants.{Accepted}
-use Rattle.ibft_table.proofs.VerdictLaws.{passes, append-passes, gather-passes}
+use Rattle.table_header.specs.declared.verdict.Verdict.the-variants.{Accepted}
+use Rattle.table_header.proofs.VerdictLaws.{passes, append-passes, gather-passes}
 use Rattle.ibft_laws.proofs.LayoutLaws.{slot-fits, nic-slot, target-slot}
 use Rattle.ibft_laws.proofs.RecordLaws.{shown-some}
 use Rattle.build_rules.specs.RecordRange.{baseSize, nicsAt, nicsGiven, targetsGiven, nicImage, targetImage, rangeSize, namedImage, imageAt, structureGiven, indexGiven, entryGiven, lengthGiven, startGiven, bytesGiven, contentGiven}

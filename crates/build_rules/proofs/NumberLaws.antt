@@ -11,12 +11,12 @@ use native.Mathlib.Omega.{arith}
 use borrow.Author.Tests.{leb-false}
 use Rattle.octets.specs.Counting.{gather}
 use Rattle.ibft_table.specs.Layout.{slotCount, entryCount, extraMost, extraNics, namedEntries, slotNumber, entryNumber}
-use Rattle.ibft_table.specs.Verdict.{Test, firstOf}
-use Rattle.ibft_table.specs.declared.verdict.Refusal.{Refusal}
-use Rattle.ibft_table.specs.declared.verdict.Verdict.{Verdict}
-use Rattle.ibft_table.specs.declared.verdict.Verdict.the-variants.{Accepted, Refused}
+use Rattle.table_header.specs.Verdict.{Test, firstOf}
+use Rattle.table_header.specs.declared.verdict.Refusal.{Refusal}
+use Rattle.table_header.specs.declared.verdict.Verdict.{Verdict}
+use Rattle.table_header.specs.declared.verdict.Verdict.the-variants.{Accepted, Refused}
 use Rattle.ibft_laws.proofs.NumberingLaws.{closed-le}
-use Rattle.ibft_table.proofs.VerdictLaws.{Every, every-none, every-next, every-append, every-gather, every-if, every-first, passes, append-accepted, append-refused, accepted-not-refused, accept-none}
+use Rattle.table_header.proofs.VerdictLaws.{Every, every-none, every-next, every-append, every-gather, every-if, every-first, passes, append-accepted, append-refused, accepted-not-refused, accept-none}
 use Rattle.build_rules.specs.RecordRange.{nicsGiven, targetsGiven, nicImage, targetImage, structureGiven, entryGiven}
 use Rattle.build_rules.specs.Refusals.{rangeTests, indexTests, extrasTests, flagsTests, imageTests, stringTests, contentsTests}
 use Rattle.build_rules.proofs.GoodLaws.{extras-most}

@@ -18,9 +18,10 @@ use Rattle.octets.proofs.TestLaws.{and-other, differs-no}
 use Rattle.hostname.specs.Hostname.{isHostName}
 use Rattle.ibft_table.specs.Layout.{Kind, control, entryCount, namedCount, extraNics, opened, slotAt, kindOf, chapAt, stringOf}
 use Rattle.ibft_table.specs.Table.{wordCount, startAt, usedAt, kindAt, indexAt, startOf, sizeOf, offsetOf, holdsEntry}
-use Rattle.ibft_table.specs.Check.{padded, reservedSet, checkOf}
+use Rattle.table_header.specs.Header.{padded}
+use Rattle.ibft_table.specs.Check.{reservedSet, checkOf}
 use Rattle.ibft_table.specs.Record.{Content}
-use Rattle.ibft_table.specs.declared.verdict.Verdict.the-variants.{Accepted}
+use Rattle.table_header.specs.declared.verdict.Verdict.the-variants.{Accepted}
 use Rattle.ibft_laws.specs.Facts.{HeaderFacts, ControlFacts, WordFacts, EntryFacts, Apart}
 use Rattle.ibft_laws.proofs.SeatBackLaws.{extra-back}
 use Rattle.build_rules.proofs.WordsBackLaws.{seat-high}

@@ -26,7 +26,7 @@ use Rattle.octets.proofs.WriteLaws.{length-zeros}
 use Rattle.ibft_table.specs.Layout.{Kind, nic, target, kindOf, entryCount, slotCount, namedCount, namedEntries, mostWords, extraMost, extraNics, extraTargets, ownerOf, stringOf, firstEntry}
 use Rattle.ibft_table.specs.Table.{startsOf, nicsIn, fieldIn, sizeIn, offsetIn, startOf, present, sizeOf, offsetOf, holdsEntry}
 use Rattle.ibft_table.specs.Check.{checkOf}
-use Rattle.ibft_table.specs.declared.verdict.Verdict.the-variants.{Accepted}
+use Rattle.table_header.specs.declared.verdict.Verdict.the-variants.{Accepted}
 use Rattle.ibft_laws.proofs.LayoutLaws.{slot-fits, entry-inside}
 use Rattle.ibft_laws.proofs.TableLaws.{present-below, facts, length-least, length-le, slot-end-le, entry-owner-on, entry-kept}
 use Rattle.ibft_laws.proofs.NumberingLaws.{ExtrasOf, nic-extras, target-extras, extras-are, nics-most, nics-are, targets-most, targets-are}

@@ -21,13 +21,14 @@ use Rattle.octets.proofs.ReadLaws.{part-length, part-at, bytes-elements, bytes-
 use Rattle.octets.proofs.TestLaws.{and-no, same-differs}
 use Rattle.hostname.specs.Hostname.{isHostName}
 use Rattle.ibft_table.specs.Layout.{Kind, control, nic, target, kindOf, slotCount, entryCount, namedCount, namedEntries, extraMost, extraNics, extraTargets, leastIndex, controlAt, chapAt, stringOf, entryNumber}
-use Rattle.ibft_table.specs.Verdict.{refuse, firstOf}
+use Rattle.table_header.specs.Verdict.{refuse, firstOf}
 use Rattle.ibft_table.specs.Table.{startsOf, endIn, indexIn, holdsIn, startOf, present, holdsEntry}
-use Rattle.ibft_table.specs.Check.{padded, reservedSet, checkOf}
+use Rattle.table_header.specs.Header.{padded}
+use Rattle.ibft_table.specs.Check.{reservedSet, checkOf}
 use Rattle.ibft_table.specs.Record.{bodySize, contentIn, contentOf}
-use Rattle.ibft_table.specs.declared.verdict.Verdict.the-variants.{Accepted}
+use Rattle.table_header.specs.declared.verdict.Verdict.the-variants.{Accepted}
 use Rattle.ibft_table.proofs.LayoutLaws.{owner-past}
-use Rattle.ibft_table.proofs.VerdictLaws.{accept-none, pass-cons, accept-cons, cons-same, append-accepted, gather-accepts, gather-verdict-same}
+use Rattle.table_header.proofs.VerdictLaws.{accept-none, pass-cons, accept-cons, cons-same, append-accepted, gather-accepts, gather-verdict-same}
 use Rattle.ibft_laws.specs.Facts.{Facts}
 use Rattle.ibft_laws.proofs.AcceptedLaws.{accepted-facts}
 use Rattle.ibft_laws.proofs.LayoutLaws.{slot-fits}

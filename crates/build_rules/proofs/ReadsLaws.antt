@@ -17,7 +17,7 @@ use Rattle.octets.specs.Octets.{byte, part}
 use Rattle.ibft_table.specs.Layout.{Kind, nic, target, kindOf, flagsAt, entryCount, slotCount, namedCount, namedEntries, extraMost, extraNics, extraTargets, ownerOf, firstEntry}
 use Rattle.ibft_table.specs.Table.{startsOf, nicsIn, holdsIn, startOf, present, sizeOf, offsetOf, holdsEntry}
 use Rattle.ibft_table.specs.Check.{checkOf}
-use Rattle.ibft_table.specs.declared.verdict.Verdict.the-variants.{Accepted}
+use Rattle.table_header.specs.declared.verdict.Verdict.the-variants.{Accepted}
 use Rattle.ibft_table.proofs.LayoutLaws.{owner-later}
 use Rattle.ibft_laws.proofs.LayoutLaws.{entry-fits}
 use Rattle.ibft_laws.proofs.TableLaws.{present-past, facts}

@@ -19,14 +19,14 @@ use lib.Dec.{ltb}
 use Rattle.octets.specs.Counting.{gather}
 use Rattle.octets.specs.Octets.{byte, part}
 use Rattle.ibft_table.specs.Layout.{entryCount}
-use Rattle.ibft_table.specs.Verdict.{refuse, firstOf, refusalOf}
+use Rattle.table_header.specs.Verdict.{refuse, firstOf, refusalOf}
 use Rattle.ibft_table.specs.Table.{startsOf, sizeOf, offsetOf, holdsEntry}
 use Rattle.ibft_table.specs.Check.{checkTests, checkOf}
 use Rattle.ibft_table.specs.Record.{Record, Content, listed, contentOf, recordOf}
-use Rattle.ibft_table.specs.declared.verdict.Refusal.{Refusal}
-use Rattle.ibft_table.specs.declared.verdict.Verdict.{Verdict}
-use Rattle.ibft_table.specs.declared.verdict.Verdict.the-variants.{Accepted, Refused}
-use Rattle.ibft_table.proofs.VerdictLaws.{accepted-not-refused, accept-none, accept-cons, passes, append-accepted, append-refused, append-same, gather-passes, gather-accepts}
+use Rattle.table_header.specs.declared.verdict.Refusal.{Refusal}
+use Rattle.table_header.specs.declared.verdict.Verdict.{Verdict}
+use Rattle.table_header.specs.declared.verdict.Verdict.the-variants.{Accepted, Refused}
+use Rattle.table_header.proofs.VerdictLaws.{accepted-not-refused, accept-none, accept-cons, passes, append-accepted, append-refused, append-same, gather-passes, gather-accepts}
 use Rattle.ibft_laws.proofs.PlaceLaws.{check-numbered, place-below}
 use Rattle.ibft_laws.proofs.RecordLaws.{table-holds-same, table-entry-same}
 use Rattle.build_rules.specs.RecordRange.{contentGiven, recordGiven}

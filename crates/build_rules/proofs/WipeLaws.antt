@@ -21,7 +21,7 @@ use Rattle.ibft_table.specs.Table.{heapOf, sizeOf, offsetOf, holdsEntry}
 use Rattle.ibft_table.specs.Check.{checkOf}
 use Rattle.ibft_table.specs.Record.{listed, contentIn, contentOf, recordOf}
 use Rattle.ibft_table.specs.Secrets.{secretsApart}
-use Rattle.ibft_table.specs.declared.verdict.Verdict.the-variants.{Accepted}
+use Rattle.table_header.specs.declared.verdict.Verdict.the-variants.{Accepted}
 use Rattle.ibft_laws.specs.Begins.{Begins}
 use Rattle.ibft_laws.proofs.TableLaws.{length-le, holds-below, entry-kept}
 use Rattle.ibft_laws.proofs.RecordLaws.{shown-same}

@@ -11,7 +11,7 @@ use Rattle.octets.specs.Octets.{byte, part}
 use Rattle.ibft_table.specs.Layout.{slotCount, entryCount, extraMost, extraNics, kindOf, nicSlot, targetSlot, firstEntry, slotAt, slotNumber, entryAt, entryNumber}
 use Rattle.ibft_table.specs.Record.{Record, bodySize}
 use Rattle.ibft_table.specs.Readings.{headerOf, structureOf, structureViewOf, initiatorOf, nicOf, targetOf, entryOf, viewOf}
-use Rattle.ibft_table.specs.declared.verdict.Refusal.{Refusal}
+use Rattle.table_header.specs.declared.verdict.Refusal.{Refusal}
 use Rattle.ibft_table.specs.declared.text.Text.{Text}
 use Rattle.ibft_table.specs.declared.entry.EntryReading.{EntryReading}
 use Rattle.ibft_laws.specs.Bodies.{initiatorFields, nicFields, targetFields, initiatorFrom, nicFrom, targetFrom}

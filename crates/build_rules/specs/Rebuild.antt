@@ -8,12 +8,12 @@ use lib.Dec.{ltb}
 use Rattle.octets.specs.Counting.{count, tabulate, gather}
 use Rattle.octets.specs.Octets.{byte, part, zeros}
 use Rattle.ibft_table.specs.Layout.{kindOf, entryCount, namedCount, namedEntries, mostWords, extraMost, extraTargets, firstEntry, entryNumber}
-use Rattle.ibft_table.specs.Verdict.{Test, refuse, firstOf, refusalOf}
+use Rattle.table_header.specs.Verdict.{Test, refuse, firstOf, refusalOf}
 use Rattle.ibft_table.specs.Table.{startsOf, startIn, presentIn, nicsIn, sizeIn, offsetIn, holdsIn}
 use Rattle.ibft_table.specs.Check.{checkTests}
 use Rattle.ibft_table.specs.Record.{contentOf}
-use Rattle.ibft_table.specs.declared.verdict.Verdict.{Verdict}
-use Rattle.ibft_table.specs.declared.verdict.Verdict.the-variants.{Accepted, Refused}
+use Rattle.table_header.specs.declared.verdict.Verdict.{Verdict}
+use Rattle.table_header.specs.declared.verdict.Verdict.the-variants.{Accepted, Refused}
 use Rattle.build_rules.specs.Refusals.{hasZero}
 use Rattle.build_rules.specs.Plan.{lengthBuilt}
 use Rattle.build_rules.specs.TableBytes.{tableOf}

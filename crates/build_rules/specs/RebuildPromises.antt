@@ -8,7 +8,7 @@ use lib.ListN.{length, take}
 use Rattle.ibft_table.specs.Layout.{entryCount}
 use Rattle.ibft_table.specs.Check.{checkOf}
 use Rattle.ibft_table.specs.Record.{recordOf}
-use Rattle.ibft_table.specs.declared.verdict.Verdict.the-variants.{Accepted}
+use Rattle.table_header.specs.declared.verdict.Verdict.the-variants.{Accepted}
 use Rattle.build_rules.specs.RecordRange.{contentGiven, recordGiven}
 use Rattle.build_rules.specs.Refusals.{contentsVerdict}
 use Rattle.build_rules.specs.Plan.{lengthBuilt}

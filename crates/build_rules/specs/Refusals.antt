@@ -8,9 +8,10 @@ use Rattle.octets.specs.Counting.{any, gather}
 use Rattle.octets.specs.Octets.{byte, part, differs}
 use Rattle.hostname.specs.Hostname.{isHostName}
 use Rattle.ibft_table.specs.Layout.{control, nic, target, kindOf, chapAt, slotCount, entryCount, namedCount, namedEntries, extraMost, extraNics, leastIndex, stringOf, slotNumber, entryNumber}
-use Rattle.ibft_table.specs.Verdict.{Test, refuse, firstOf}
-use Rattle.ibft_table.specs.Check.{padded, reservedSet}
-use Rattle.ibft_table.specs.declared.verdict.Verdict.{Verdict}
+use Rattle.table_header.specs.Verdict.{Test, refuse, firstOf}
+use Rattle.table_header.specs.Header.{padded}
+use Rattle.ibft_table.specs.Check.{reservedSet}
+use Rattle.table_header.specs.declared.verdict.Verdict.{Verdict}
 use Rattle.build_rules.specs.RecordRange.{baseSize, rangeSize, marksAt, nicsGiven, targetsGiven, nicImage, targetImage, imageAt, structureGiven, entryGiven, lengthGiven, startGiven, bytesGiven}
 
 -- a zero byte stands among the bytes

@@ -1,9 +1,16 @@
-// Enters a record: reads its text on standard input (docs/RECORD-FORMAT.md) and writes the table's bytes to standard output. A text that cannot be
-// read, or a record that is refused, is answered on standard error, and no table is written.
+// Enters a record: reads its text on standard input (docs/RECORD-FORMAT.md) and writes the table's bytes to standard output, an iBFT, an aBFT or an
+// sBFT by the fields that the text names. A text that cannot be read, or a record that is refused, is answered on standard error, and no table is
+// written.
 use build_rules::range::INDEX_AT;
 use build_rules::range::LARGEST_SIZE;
 use build_rules::range::image_at;
 use build_rules::range::nics_given;
+use family_text::enter::IMAGE_SIZE;
+use family_text::family::Stray;
+use family_text::family::family_of;
+use family_text::family::stray_line;
+use family_text::fields::ABFT;
+use family_text::fields::IBFT;
 use ibft_build::build::build;
 use ibft_table::layout::ENTRY_COUNT;
 use ibft_table::layout::EXTRA_MOST;
@@ -33,6 +40,7 @@ use record_text::fields::TARGET_FLAGS;
 use record_text::fields::field_at;
 use record_text::fields::plain_count;
 use record_text::fields::put_name;
+use table_header::write::Written;
 ghost use Prim.Native.Nat.{_≤_};
 
 const STDIN: i32 = 0;
@@ -131,11 +139,46 @@ fn say_reason(reason: u8, field: FieldName) {
     }
 }
 
-fn say_line(entered: Entered) {
+// ---- a line that cannot be read
+
+fn say_line(line: usize) {
     say(b"enter: line ");
-    say_number(entered.line as u64);
+    say_number(line as u64);
     say(b": ");
+}
+
+fn say_family(family: u8) {
+    match family {
+        0 => {
+            say(b"an iBFT");
+        }
+        1 => {
+            say(b"an aBFT");
+        }
+        _ => {
+            say(b"an sBFT");
+        }
+    }
+}
+
+// A line that names a field of another family than the text's.
+fn say_stray(stray: Stray, family: u8) {
+    say_line(stray.line);
+    say(b"this field is of ");
+    say_family(stray.family);
+    say(b", and the text of ");
+    say_family(family);
+    say(b"\n");
+}
+
+fn say_unread(text: &[u8], entered: Entered) {
+    let stray = stray_line(text);
+    if stray.line == entered.line {
+        say_stray(stray, IBFT);
+        return;
+    }
     let field = entered.field;
+    say_line(entered.line);
     say_reason(entered.reason, field);
     say(b"\n");
 }
@@ -204,14 +247,17 @@ fn oem_field(n: u8) -> FieldName {
     }
 }
 
+// An OEM field that goes on behind a zero byte.
+fn say_oem(place: u32) {
+    say_name(oem_field(if place == 10 { 0 } else { 1 }));
+    say(b"a zero byte is followed by another byte\n");
+}
+
 // The words of a refusal of the build. (The record range that `enter` makes has no reserved flag, no CHAP type above 2, no mark but 0 and 1, its
 // strings in the strings range, and the room holds every table: 10, 19, 21, 24 and 25 are not met here.)
 fn say_words(range: &[u8], number: u8, place: u32) {
     match number {
-        8 => {
-            say_name(oem_field(if place == 10 { 0 } else { 1 }));
-            say(b"a zero byte is followed by another byte\n");
-        }
+        8 => say_oem(place),
         17 => {
             say_name(string_field(range, place));
             say(b"a name has at most 223 bytes, any other string 255\n");
@@ -228,12 +274,16 @@ fn say_words(range: &[u8], number: u8, place: u32) {
     }
 }
 
-fn say_refusal(range: &[u8], number: u8, place: u32) {
+fn say_number_and_place(number: u8, place: u32) {
     say(b"refused ");
     say_number(number as u64);
     say(b" ");
     say_number(place as u64);
     say(b"\n");
+}
+
+fn say_refusal(range: &[u8], number: u8, place: u32) {
+    say_number_and_place(number, place);
     say_words(range, number, place);
 }
 
@@ -249,18 +299,107 @@ fn write_table(range: &[u8], strings: &[u8]) {
     io::write_all(STDOUT, part(&room, 0, built.length as usize));
 }
 
-fn enter_text(text: &[u8]) {
+fn enter_ibft(text: &[u8]) {
     let mut range = [0u8; LARGEST_SIZE as usize];
     let mut strings = [0u8; 16384];
     let entered = enter(text, &mut range, &mut strings);
     if entered.reason != 0 {
-        say_line(entered);
+        say_unread(text, entered);
         return;
     }
     write_table(
         part(&range, 0, entered.size),
         part(&strings, 0, entered.used),
     );
+}
+
+// ---- an aBFT or an sBFT
+
+// Why the value of field n of the family cannot be read.
+fn say_image_unreadable(family: u8, n: u8) {
+    let layout = family_text::fields::field_at(family, n);
+    let notation = layout.notation;
+    match notation {
+        family_text::fields::Notation::Oem => say_no_string(),
+        family_text::fields::Notation::Number => say_range(layout.width),
+        family_text::fields::Notation::Pairs => say_no_pairs(layout.width),
+        family_text::fields::Notation::Address => say(
+            b"the value is not an address, as fe80::2:c903:0:1491",
+        ),
+    }
+}
+
+fn say_no_pairs(width: u8) {
+    say(b"the value is not ");
+    say_number(width as u64);
+    say(b" pairs of hexadecimal digits with colons between");
+}
+
+fn say_image_reason(family: u8, reason: u8, n: u8) {
+    if reason == NO_SUCH_FIELD {
+        say(b"there is no such field");
+    }
+    if reason == GIVEN_BEFORE {
+        say(b"this field was given before");
+    }
+    if reason == UNREADABLE {
+        say_image_unreadable(family, n);
+    }
+    if reason == TOO_LONG {
+        say(b"the string has more than ");
+        say_number(family_text::fields::field_at(family, n).width as u64);
+        say(b" bytes");
+    }
+}
+
+fn say_image_unread(family: u8, text: &[u8], entered: family_text::enter::Entered) {
+    let stray = stray_line(text);
+    if stray.line == entered.line {
+        say_stray(stray, family);
+        return;
+    }
+    say_line(entered.line);
+    say_image_reason(family, entered.reason, entered.field);
+    say(b"\n");
+}
+
+fn write_image(family: u8, image: &[u8], room: &mut [u8]) -> Written {
+    if family == ABFT {
+        return abft::write::write(image, room);
+    }
+    sbft::write::write(image, room)
+}
+
+// Writes the table of the image. (The room holds every table, so an OEM field is all that can be refused.)
+fn write_family(family: u8, image: &[u8]) {
+    let mut room = [0u8; IMAGE_SIZE];
+    let written = write_image(family, image, &mut room);
+    let refusal = written.refusal;
+    if refusal.number != 0 {
+        say_number_and_place(refusal.number, refusal.place);
+        say_oem(refusal.place);
+        return;
+    }
+    io::write_all(STDOUT, part(&room, 0, written.length as usize));
+}
+
+fn enter_family(family: u8, text: &[u8]) {
+    let mut image = [0u8; IMAGE_SIZE];
+    let entered = family_text::enter::enter(family, text, &mut image);
+    if entered.reason != 0 {
+        say_image_unread(family, text, entered);
+        return;
+    }
+    write_family(family, &image);
+}
+
+fn enter_text(text: &[u8]) {
+    let family = family_of(text);
+    if family == IBFT {
+        enter_ibft(text);
+    } else {
+        enter_family(family, text);
+    }
 }
 
 // One byte more than a text may have is read, which tells a longer one.

@@ -1,7 +1,8 @@
-// Finds the iBFT in a memory dump, which stands on standard input: `find ADDRESS`, with the address of the dump's first byte, in
-// decimal or behind 0x in hexadecimal. Prints `table` with the table's address and Length, or `refused` with the number of the
-// refusal and its place, which is 0. `find ADDRESS bytes` writes the table's bytes instead, and a refusal to standard error.
-// Where there is no table and the dump begins with zero bytes only, that is said on standard error.
+// Finds the tables in a memory dump, which stands on standard input: `find ADDRESS`, with the address of the dump's first byte, in
+// decimal or behind 0x in hexadecimal. Prints a line for each family of which there is one, `table` with its address, its Length and its
+// family; or `refused` with the number of the refusal and its place, which is 0. `find ADDRESS FAMILY` looks for that family alone, and `find
+// ADDRESS FAMILY bytes` writes the table's bytes instead, and a refusal to standard error. Where there is no table and the dump begins
+// with zero bytes only, that is said on standard error.
 use notation::number::Number;
 use notation::number::read_number;
 use octets::read::part;
@@ -11,7 +12,7 @@ use scan::scan_for;
 use scan::table_for;
 use text::split::same;
 ghost use mathlib.Core.Path.{_≡_};
-ghost use Prim.Native.Nat.{ℕ, min, _+_, _^_, _≤_, _<_};
+ghost use Prim.Native.Nat.{ℕ, _+_, _^_, _≤_, _<_};
 ghost use lib.ListN.{length};
 ghost use Rattle.octets.specs.Counting.{first};
 ghost use Rattle.octets.specs.Octets.{byte, differs};
@@ -22,23 +23,59 @@ const STDOUT: i32 = 1;
 
 const STDERR: i32 = 2;
 
-// Where the window starts: no table stands below.
-const WINDOW_START: u64 = 0x80000;
+// Room for all memory up to the end of the highest window, 0x100000, and one byte that tells a longer dump.
+const MEMORY_SIZE: usize = 0x100001;
 
 // An operating system that shows memory as zeros does so page by page.
 const PAGE: usize = 4096;
 
-fn print_refusal(fd: i32, s: Scanned) {
+// The families by number, in the order in which they are said; and all of them.
+const IBFT: u8 = 0;
+
+const ABFT: u8 = 1;
+
+const SBFT: u8 = 2;
+
+const ALL: u8 = 3;
+
+// A number that is no family's.
+const UNKNOWN: u8 = 4;
+
+fn family(n: u8) -> Family {
+    match n {
+        1 => Family::ABFT,
+        2 => Family::SBFT,
+        _ => Family::IBFT,
+    }
+}
+
+fn print_family(n: u8) {
+    match n {
+        1 => {
+            io::write_all(STDOUT, b"aBFT");
+        }
+        2 => {
+            io::write_all(STDOUT, b"sBFT");
+        }
+        _ => {
+            io::write_all(STDOUT, b"iBFT");
+        }
+    }
+}
+
+fn print_refusal(fd: i32, number: u8) {
     io::write_all(fd, b"refused ");
-    io::print_decimal(fd, s.number as u64);
+    io::print_decimal(fd, number as u64);
     io::write_all(fd, b" 0\n");
 }
 
-fn print_found(s: Scanned) {
+fn print_found(n: u8, s: Scanned) {
     io::write_all(STDOUT, b"table 0x");
     io::print_hex(STDOUT, s.address, 1);
     io::write_all(STDOUT, b" ");
     io::print_decimal(STDOUT, s.length as u64);
+    io::write_all(STDOUT, b" ");
+    print_family(n);
     io::write_all(STDOUT, b"\n");
 }
 
@@ -82,83 +119,114 @@ fn tell_zeros(memory: &[u8], address: u64)
     print_zeros(address, address + (n as u64 - 1));
 }
 
-// What the scan finds in the memory that starts at the address: said in a line, or its bytes.
-fn answer(memory: &[u8], address: u64, bytes: bool) {
-    let scanned = scan_for(Family::IBFT, memory, address);
+// The memory up to the end of the family's window: what a dump has above it is not the family's.
+fn below_end(f: Family, memory: &[u8], address: u64) -> &[u8] {
+    if f.high <= address {
+        return part(memory, 0, 0);
+    }
+    part(memory, 0, (f.high - address) as usize)
+}
+
+// Says the table of family n in a line, or writes its bytes, where there is one.
+fn tell_found(n: u8, memory: &[u8], address: u64, bytes: bool) -> bool {
+    let f = family(n);
+    let window = below_end(f, memory, address);
+    let scanned = scan_for(f, window, address);
     if scanned.number != 0 {
-        print_refusal(if bytes { STDERR } else { STDOUT }, scanned);
-        if scanned.number == 2 {
-            tell_zeros(memory, address);
-        }
-        return;
-    }
-    if bytes {
-        io::write_all(STDOUT, table_for(Family::IBFT, memory, address));
-    } else {
-        print_found(scanned);
-    }
-}
-
-// How many of the bytes left are read at a time.
-fn chunk_of(left: u64) -> usize
-    ensures { λ r. ⌜ r ≡ min left 4096 ⌝ }
-{
-    if left < 4096 { left as usize } else { 4096 }
-}
-
-// Reads n bytes of the dump, at most 4,096, and leaves them; false where it ends before.
-fn skip_chunk(n: usize) -> bool {
-    let mut chunk = io::buffer();
-    if 4096 < n {
         return false;
     }
-    n <= io::read_full(STDIN, &mut chunk[..n])
-}
-
-// Reads n bytes of the dump and leaves them; false where it ends before.
-fn skip(n: u64) -> bool {
-    let mut left = n;
-    while 0 < left {
-        let size = chunk_of(left);
-        if !skip_chunk(size) {
-            return false;
-        }
-        left -= size as u64;
+    if bytes {
+        io::write_all(STDOUT, table_for(f, window, address));
+    } else {
+        print_found(n, scanned);
     }
     true
 }
 
-// Looks through the dump from the window's start on, with room for the whole window and one byte that tells a longer dump.
-fn find_from(address: u64, bytes: bool) {
-    let mut memory = [0u8; 524289];
-    let n = io::read_full(STDIN, &mut memory);
-    answer(part(&memory, 0, n), address, bytes);
+// The same of each family.
+fn tell_all(memory: &[u8], address: u64) -> bool {
+    let ibft = tell_found(IBFT, memory, address, false);
+    let abft = tell_found(ABFT, memory, address, false);
+    let sbft = tell_found(SBFT, memory, address, false);
+    ibft | abft | sbft
 }
 
-// What stood below the window is not kept: a dump of all memory from 0 on is looked through as well.
-fn find(address: u64, bytes: bool) {
-    if WINDOW_START <= address {
-        find_from(address, bytes);
+fn tell_wanted(wanted: u8, memory: &[u8], address: u64, bytes: bool) -> bool {
+    if wanted == ALL {
+        return tell_all(memory, address);
+    }
+    tell_found(wanted, memory, address, bytes)
+}
+
+// What is found in the memory that starts at the address. (No dump goes past the end of the iBFT's window, which is the highest.)
+fn answer(wanted: u8, memory: &[u8], address: u64, bytes: bool) {
+    let fd = if bytes { STDERR } else { STDOUT };
+    let scanned = scan_for(Family::IBFT, memory, address);
+    if scanned.number == 1 {
+        print_refusal(fd, 1);
         return;
     }
-    if skip(WINDOW_START - address) {
-        find_from(WINDOW_START, bytes);
-    } else {
-        answer(b"", WINDOW_START, bytes);
+    if tell_wanted(wanted, memory, address, bytes) {
+        return;
     }
+    print_refusal(fd, 2);
+    tell_zeros(memory, address);
+}
+
+// Reads the dump into the memory and looks through it.
+fn find_in(memory: &mut [u8], wanted: u8, address: u64, bytes: bool) {
+    let n = io::read_full(STDIN, memory);
+    answer(wanted, part(memory, 0, n), address, bytes);
+}
+
+fn find(wanted: u8, address: u64, bytes: bool) {
+    let mut memory = [0u8; MEMORY_SIZE];
+    find_in(&mut memory, wanted, address, bytes);
+}
+
+fn family_named(name: &[u8]) -> u8 {
+    if name.len() == 0 {
+        return ALL;
+    }
+    if same(name, b"ibft") {
+        return IBFT;
+    }
+    if same(name, b"abft") {
+        return ABFT;
+    }
+    if same(name, b"sbft") {
+        return SBFT;
+    }
+    UNKNOWN
+}
+
+fn wanted_family() -> u8 {
+    let mut text = [0u8; 32];
+    let n = os::arg(2, &mut text);
+    family_named(part(&text, 0, n))
 }
 
 fn wants_bytes() -> bool {
     let mut text = [0u8; 32];
-    let n = os::arg(2, &mut text);
+    let n = os::arg(3, &mut text);
     same(part(&text, 0, n), b"bytes")
+}
+
+// Finds what the arguments behind the address ask for.
+fn find_wanted(address: u64) {
+    let wanted = wanted_family();
+    if wanted == UNKNOWN {
+        io::write_all(STDERR, b"find: the families are ibft, abft and sbft\n");
+        return;
+    }
+    find(wanted, address, wants_bytes());
 }
 
 fn main() {
     let mut text = [0u8; 32];
     let n = os::arg(1, &mut text);
     match read_number(0xFFFFFFFFFFFFFFFF, part(&text, 0, n)) {
-        Number::Value(address) => find(address, wants_bytes()),
+        Number::Value(address) => find_wanted(address),
         Number::Bad => {
             io::write_all(
                 STDERR,

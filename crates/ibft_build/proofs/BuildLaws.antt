@@ -8,11 +8,11 @@ use mathlib.Core.List.{List, _++_}
 use Prim.Native.Nat.{ℕ, _≤_, _<_}
 use lib.ListN.{length, drop}
 use borrow.Author.Tests.{lt-ltb, le-ltb}
-use Rattle.ibft_table.specs.Verdict.{refusalOf}
-use Rattle.ibft_table.specs.declared.verdict.Refusal.{Refusal}
-use Rattle.ibft_table.specs.declared.verdict.Verdict.{Verdict}
-use Rattle.ibft_table.specs.declared.verdict.Verdict.the-variants.{Accepted, Refused}
-use Rattle.ibft_table.proofs.VerdictLaws.{accept-none, accept-cons, fail-cons, append-accepted, append-refused}
+use Rattle.table_header.specs.Verdict.{refusalOf}
+use Rattle.table_header.specs.declared.verdict.Refusal.{Refusal}
+use Rattle.table_header.specs.declared.verdict.Verdict.{Verdict}
+use Rattle.table_header.specs.declared.verdict.Verdict.the-variants.{Accepted, Refused}
+use Rattle.table_header.proofs.VerdictLaws.{accept-none, accept-cons, fail-cons, append-accepted, append-refused}
 use Rattle.build_rules.specs.RecordRange.{contentGiven}
 use Rattle.build_rules.specs.Refusals.{contentsTests, contentsVerdict}
 use Rattle.build_rules.specs.Plan.{lengthBuilt}

@@ -11,9 +11,9 @@ use lib.ListN.{length}
 use borrow.Author.Tests.{ltb-false}
 use Rattle.octets.specs.Counting.{gather}
 use Rattle.ibft_table.specs.Layout.{slotCount, entryCount, stringOf}
-use Rattle.ibft_table.specs.Verdict.{Test, firstOf}
-use Rattle.ibft_table.specs.declared.verdict.Verdict.the-variants.{Accepted}
-use Rattle.ibft_table.proofs.VerdictLaws.{passes, append-passes, gather-passes}
+use Rattle.table_header.specs.Verdict.{Test, firstOf}
+use Rattle.table_header.specs.declared.verdict.Verdict.the-variants.{Accepted}
+use Rattle.table_header.proofs.VerdictLaws.{passes, append-passes, gather-passes}
 use Rattle.ibft_laws.proofs.LayoutLaws.{entry-fits}
 use Rattle.build_rules.specs.RecordRange.{entryGiven, lengthGiven, startGiven}
 use Rattle.build_rules.specs.Refusals.{rangeTests, extrasTests, flagsTests, imageTests, stringTests, contentsTests, contentsVerdict}

@@ -2,7 +2,7 @@
 --     header-built, control-built, structures-built    the pieces are those of the definitions
 --     front-is                                         the header and Control, each lent its stretch
 --     bare-is, bare-length                             the table before its checksum is set
---     checksum-is, table-is                            the checksum last
+--     table-is                                         the checksum last
 -- Assumes nothing.
 use mathlib.Core.Path.{_≡_, refl, sym, ap, ap₂, _∙_}
 use mathlib.Core.Bool.{Bool, true, false, cond}
@@ -21,6 +21,7 @@ use Rattle.string_heap.specs.Stored.{heapSize}
 use Rattle.string_heap.specs.Places.{len, heapTo}
 use Rattle.string_heap.specs.Starts.{align8}
 use Rattle.string_heap.proofs.HostLaws.{heap-length}
+use Rattle.table_header.specs.Header.{headerStart}
 use Rattle.ibft_table.specs.Layout.{kindOf, firstEntry, slotCount, namedCount, mostWords, entryCount, controlEnd, builtSlot, mayShare}
 use Rattle.ibft_table.specs.Record.{Content, bodySize, shownIf}
 use Rattle.ibft_laws.proofs.LayoutLaws.{built-fits}
@@ -28,7 +29,7 @@ use Rattle.build_rules.specs.RecordRange.{imageAt, structureGiven, indexGiven, 
 use Rattle.build_rules.specs.Plan.{extrasBuilt, startBuilt, heapStart, lengthBuilt, offsetBuilt}
 use Rattle.build_rules.specs.TableBytes.{headerBytes, startBytes, extraWord, controlBytes, wordsBuilt, structureBytes, stretchAs, stretch, bareTable, tableOf}
 use Rattle.ibft_build.specs.Planning.{Whole, Readable, extrasGiven, entriesGiven, wantedSizes, structureEnds, entryOffsets}
-use Rattle.ibft_build.specs.Writing.{headerStart, headerWith, controlFront, startWord, extraWordGiven, controlWith, wordsWith, structureWith, stretchWith}
+use Rattle.ibft_build.specs.Writing.{headerWith, controlFront, startWord, extraWordGiven, controlWith, wordsWith, structureWith, stretchWith}
 use Rattle.ibft_build.proofs.EntryLaws.{entry-some, entry-none, wanted-at, wanted-on, wanted-off}
 use Rattle.ibft_build.proofs.StartLaws.{ends-at, present-given, extras-built, end-built, start-built}
 use Rattle.ibft_build.proofs.PatchLaws.{write-mid, write-then}
@@ -41,8 +42,8 @@ module _ (r s : List ℕ) where
   pub header-built : headerWith r (lengthBuilt (contentGiven r s)) ≡ headerBytes (contentGiven r s)
   unfolding headerWith headerBytes contentGiven part
   header-built =
-      ap (λ (l : List ℕ). headerStart (lengthBuilt (contentGiven r s)) ++ (l ++ zeros 24)) (take-add 6 8 r)
-      ∙ ap (λ (l : List ℕ). headerStart (lengthBuilt (contentGiven r s)) ++ l) (append-assoc (take 6 r) (take 8 (drop 6 r)) (zeros 24))
+      ap (λ (l : List ℕ). headerStart 0x54464269 (lengthBuilt (contentGiven r s)) ++ (l ++ zeros 24)) (take-add 6 8 r)
+      ∙ ap (λ (l : List ℕ). headerStart 0x54464269 (lengthBuilt (contentGiven r s)) ++ l) (append-assoc (take 6 r) (take 8 (drop 6 r)) (zeros 24))
 
   pub control-built : controlWith r ≡ controlBytes (contentGiven r s)
   unfolding controlWith controlBytes contentGiven startWord extraWordGiven extraWord
@@ -179,9 +180,6 @@ module _ (r s : List ℕ) (sound : Readable r s) (ends wanted offsets : List ℕ
       ∙ ap (write t 0) (append-assoc front structures heap ∙ parts)
 
 -- ---- the checksum last
-
-pub checksum-is : (t w : List ℕ) (size sum : ℕ) → sum ≡ checksum (take size t) 9 → w ≡ write t 9 (sum ∷ []) → w ≡ write t 9 (checksum (take size t) 9 ∷ [])
-checksum-is t w size sum e ew = ew ∙ ap (λ (b : ℕ). write t 9 (b ∷ [])) e
 
 pub table-is : (c : Content) (t u w : List ℕ) (size : ℕ) → length (bareTable c) ≡ lengthBuilt c → 66 ≤ lengthBuilt c → lengthBuilt c ≤ length t → size ≡ lengthBuilt c
     → u ≡ write t 0 (bareTable c) → w ≡ write u 9 (checksum (take size u) 9 ∷ []) → w ≡ tableOf c ++ drop (lengthBuilt c) t

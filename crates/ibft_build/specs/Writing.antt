@@ -5,21 +5,18 @@ use mathlib.Core.Bool.{cond}
 use Prim.Native.Nat.{ℕ, _+_, _-_}
 use lib.ListN.{length, getD}
 use Rattle.octets.specs.Counting.{gather}
-use Rattle.octets.specs.Octets.{byte, part, le16, le32, zeros}
+use Rattle.octets.specs.Octets.{byte, part, le16, zeros}
 use Rattle.string_heap.specs.Starts.{align8}
+use Rattle.table_header.specs.Header.{headerStart}
 use Rattle.ibft_table.specs.Layout.{kindOf, firstEntry, namedCount, mostWords, builtSlot}
 use Rattle.ibft_table.specs.Record.{bodySize}
 use Rattle.build_rules.specs.RecordRange.{imageAt, structureGiven, indexGiven}
 use Rattle.build_rules.specs.TableBytes.{startBytes, controlStart}
 use Rattle.ibft_build.specs.Planning.{extrasGiven, structureStart}
 
--- the header up to the OEM fields: signature `iBFT`, Length, Revision 1, Checksum (not yet set)
-abbrev pub headerStart : ℕ → List ℕ
-headerStart size = 105 ∷ 66 ∷ 70 ∷ 84 ∷ (le32 size ++ (1 ∷ 0 ∷ []))
-
--- the header of a table of this Length; the two OEM fields stand in the range as in the header
+-- the header of an iBFT of this Length; the two OEM fields stand in the range as in the header
 unfoldable pub headerWith : List ℕ → ℕ → List ℕ
-headerWith r size = headerStart size ++ (part r 0 14 ++ zeros 24)
+headerWith r size = headerStart 0x54464269 size ++ (part r 0 14 ++ zeros 24)
 
 -- Control up to its words for the slots: ID, Version, Length, Index, flags, Extensions
 abbrev pub controlFront : ℕ → ℕ → List ℕ

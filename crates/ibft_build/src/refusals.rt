@@ -5,7 +5,7 @@ use crate::refusals_images::flags_verdict;
 use crate::refusals_images::images_verdict;
 use crate::refusals_range::range_verdict;
 use crate::refusals_strings::strings_verdict;
-use ibft_table::verdict::Verdict;
+use table_header::verdict::Verdict;
 ghost use mathlib.Core.Path.{_≡_};
 ghost use Rattle.build_rules.specs.Refusals.{contentsVerdict};
 

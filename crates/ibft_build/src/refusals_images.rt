@@ -10,13 +10,13 @@ use ibft_table::layout::CHAP_AT;
 use ibft_table::layout::CHAP_LAST;
 use ibft_table::layout::FLAGS_AT;
 use ibft_table::layout::kind_of;
-use ibft_table::verdict::Verdict;
-use ibft_table::verdict::refuse;
 use octets::read::byte_at;
+use table_header::verdict::Verdict;
+use table_header::verdict::refuse;
 ghost use mathlib.Core.Path.{_≡_};
 ghost use Rattle.octets.specs.Counting.{gather};
 ghost use Rattle.ibft_table.specs.Layout.{slotCount};
-ghost use Rattle.ibft_table.specs.Verdict.{firstOf};
+ghost use Rattle.table_header.specs.Verdict.{firstOf};
 ghost use Rattle.build_rules.specs.Refusals.{flagsTests, imageTests};
 
 // The place of a refusal of Control's flags: Control has no slot.

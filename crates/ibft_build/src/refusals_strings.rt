@@ -7,14 +7,14 @@ use crate::record::entry_number;
 use crate::record::entry_start;
 use hostname::is_host_name;
 use ibft_table::layout::string_of;
-use ibft_table::verdict::Verdict;
-use ibft_table::verdict::refuse;
 use octets::read::part;
+use table_header::verdict::Verdict;
+use table_header::verdict::refuse;
 ghost use mathlib.Core.Path.{_≡_};
 ghost use Prim.Native.Nat.{_<_};
 ghost use Rattle.octets.specs.Counting.{gather};
 ghost use Rattle.ibft_table.specs.Layout.{entryCount};
-ghost use Rattle.ibft_table.specs.Verdict.{firstOf};
+ghost use Rattle.table_header.specs.Verdict.{firstOf};
 ghost use Rattle.build_rules.specs.Refusals.{hasZero, stringTests};
 
 // Does a zero byte stand among the bytes? All of them are read: a loop with no early exit is vectorised.

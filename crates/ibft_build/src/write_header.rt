@@ -9,12 +9,13 @@ use ibft_table::header::Header;
 use ibft_table::layout::EXTRA_NICS;
 use ibft_table::layout::EXTRA_TARGETS;
 use ibft_table::layout::NAMED_COUNT;
-use ibft_table::layout::OEM_ID_AT;
 use octets::read::byte_at;
 use octets::read::part;
 use octets::write::put_bytes;
 use octets::write::put_u16;
 use octets::write::put_zeros;
+use table_header::header::OEM_ID_AT;
+use table_header::write::header_start;
 ghost use mathlib.Core.Path.{_≡_};
 ghost use Prim.Native.Nat.{_+_, _*_, _≤_};
 ghost use lib.ListN.{length};
@@ -22,7 +23,7 @@ ghost use Rattle.octets.specs.Counting.{gather};
 ghost use Rattle.octets.specs.Octets.{write};
 ghost use Rattle.ibft_table.specs.Layout.{slotCount, mostWords};
 ghost use Rattle.ibft_build.specs.Planning.{Whole, extrasGiven, structureEnds};
-ghost use Rattle.ibft_build.specs.Writing.{headerStart, headerWith, controlFront, startWord, controlWith};
+ghost use Rattle.ibft_build.specs.Writing.{headerWith, controlFront, startWord, controlWith};
 
 // Where the OEM fields stand in the range, how long they are together, where they stand in the header.
 const OEM_FROM: usize = OEM_AT as usize;
@@ -36,30 +37,12 @@ const WORDS_AT: u16 = Control::WORDS_AT - Control::AT;
 
 const EXTRA_WORDS_AT: u16 = WORDS_AT + 2 * NAMED_COUNT as u16;
 
-// The header up to the OEM fields: signature, Length, Revision, and the checksum, which comes last.
-fn header_start(size: u32) -> [u8; 10]
-    ensures { λ r. ⌜ r ≡ headerStart size ⌝ }
-{
-    [
-        (Header::SIGNATURE % 256) as u8,
-        (Header::SIGNATURE / 256 % 256) as u8,
-        (Header::SIGNATURE / 65536 % 256) as u8,
-        (Header::SIGNATURE / 65536 / 256 % 256) as u8,
-        (size % 256) as u8,
-        (size / 256 % 256) as u8,
-        (size / 65536 % 256) as u8,
-        (size / 65536 / 256 % 256) as u8,
-        Header::REVISION,
-        0,
-    ]
-}
-
 // Writes the header of a table of this Length. The two OEM fields stand in the range as in the header, so they are one copy.
 pub(crate) fn put_header(header: &mut [u8], range: &[u8], size: u32)
     requires { ⌜ (length (now header) ≡ 48) × Whole (now range) ⌝ }
     ensures { λ _. ⌜ now (header .exit) ≡ headerWith (now (range .entry)) size ⌝ }
 {
-    let start = header_start(size);
+    let start = header_start(Header::SIGNATURE, size);
     put_bytes(header, 0, &start);
     let oem = part(range, OEM_FROM, OEM_SIZE);
     put_bytes(header, OEM_TO, oem);

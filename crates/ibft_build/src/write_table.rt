@@ -6,22 +6,18 @@ use crate::write_header::put_header;
 use crate::write_heap::put_heap;
 use crate::write_structure::put_structures;
 use ibft_table::layout::SLOT_COUNT;
-use octets::sum::checksum;
-use octets::write::put_byte;
+use table_header::write::put_checksum;
 ghost use mathlib.Core.Path.{_≡_};
-ghost use mathlib.Core.List.{[], _∷_, _++_};
+ghost use mathlib.Core.List.{_++_};
 ghost use Prim.Native.Nat.{_≤_};
-ghost use lib.ListN.{length, take, drop};
-ghost use Rattle.octets.specs.Octets.{checksum, write};
+ghost use lib.ListN.{length, drop};
+ghost use Rattle.octets.specs.Octets.{write};
 ghost use Rattle.ibft_table.specs.Layout.{controlEnd};
 ghost use Rattle.build_rules.specs.RecordRange.{contentGiven};
 ghost use Rattle.build_rules.specs.Plan.{lengthBuilt};
 ghost use Rattle.build_rules.specs.TableBytes.{bareTable, tableOf};
 ghost use Rattle.ibft_build.specs.Planning.{Whole, Readable, Planned, extrasGiven, structureEnds};
 ghost use Rattle.ibft_build.specs.Writing.{headerWith, controlWith};
-
-// Where the checksum stands.
-const CHECKSUM_AT: usize = 9;
 
 // Writes the header and Control, for a table of this Length.
 fn put_front(room: &mut [u8], range: &[u8], ends: &[u16], size: u32)
@@ -55,15 +51,6 @@ fn put_bare(
     let end = size as usize;
     let limit = entry_limit(range);
     put_heap(&mut room[start..end], range, strings, fields, sizes, limit);
-}
-
-// Sets the checksum of the table that the first `size` bytes are.
-fn put_checksum(room: &mut [u8], size: usize)
-    requires { ⌜ size ≤ length (now room) ⌝ }
-    ensures { λ _. ⌜ now (room .exit) ≡ write (now (room .entry)) 9 (checksum (take size (now (room .entry))) 9 ∷ []) ⌝ }
-{
-    let byte = checksum(&room[..size], CHECKSUM_AT);
-    put_byte(room, CHECKSUM_AT, byte);
 }
 
 // Writes the table of a plan that the room has space for. Room past Length keeps its bytes.

@@ -18,14 +18,15 @@ use Rattle.octets.specs.Counting.{count, gather}
 use Rattle.octets.specs.Octets.{byte, word16, word32, part, sum, differs}
 use Rattle.octets.proofs.CountingLaws.{clash, any-none, any-no}
 use Rattle.ibft_table.specs.Layout.{Kind, control, nic, target, namedCount, extraMost, leastIndex, mostWords, controlAt, extensionsAt, chapAt, entryCount, stringOf}
-use Rattle.ibft_table.specs.Verdict.{firstOf}
-use Rattle.ibft_table.specs.Table.{lengthOf, controlLength, controlEndOf, wordCount, startAt, usedAt, kindAt, indexAt, endAt, alike, heapOf, startsOf, sizeOf, offsetOf, holdsEntry}
-use Rattle.ibft_table.specs.Check.{padded, headerTests, alien, alienControl, reservedSet, controlTests, misplaced, namedTests, extraTests, flagTests, twin, wordTests, overlap, overlapTests, entryTests, checkTests, checkOf}
-use Rattle.ibft_table.specs.declared.verdict.Verdict.the-variants.{Accepted}
+use Rattle.table_header.specs.Verdict.{firstOf}
+use Rattle.table_header.specs.Header.{lengthOf, padded, headerTests}
+use Rattle.ibft_table.specs.Table.{controlLength, controlEndOf, wordCount, startAt, usedAt, kindAt, indexAt, endAt, alike, heapOf, startsOf, sizeOf, offsetOf, holdsEntry}
+use Rattle.ibft_table.specs.Check.{alien, alienControl, reservedSet, controlTests, misplaced, namedTests, extraTests, flagTests, twin, wordTests, overlap, overlapTests, entryTests, checkTests, checkOf}
+use Rattle.table_header.specs.declared.verdict.Verdict.the-variants.{Accepted}
 use Rattle.ibft_laws.specs.Facts.{HeaderFacts, StartFacts, ControlFacts, WordFacts, ExtraFacts, EntryFacts, Apart, Facts}
 use Rattle.octets.proofs.TestLaws.{and-other, and-no, or-both, or-no, differs-no, same-differs}
 use Rattle.ibft_table.proofs.CheckLaws.{heap-after-control}
-use Rattle.ibft_table.proofs.VerdictLaws.{passes, accept-cons, accept-none, append-accepted, append-passes, gather-passes, gather-accepts}
+use Rattle.table_header.proofs.VerdictLaws.{passes, accept-cons, accept-none, append-accepted, append-passes, gather-passes, gather-accepts}
 
 module _ (signature leastLent leastLength : ℕ) (t : List ℕ) where
   pub header-facts : firstOf (headerTests signature leastLent leastLength t) ≡ Accepted → HeaderFacts signature leastLent leastLength t

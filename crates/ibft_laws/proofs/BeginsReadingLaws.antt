@@ -11,14 +11,15 @@ use lib.ListN.{length, drop, length-drop}
 use Rattle.octets.specs.Octets.{part, bytesPast, bytesAt}
 use Rattle.octets.proofs.ReadLaws.{bytes-part, part-from}
 use Rattle.ibft_table.specs.Layout.{Kind, initiator, nic, target, slotCount, entryCount, kindOf, nicSlot, targetSlot}
-use Rattle.ibft_table.specs.Verdict.{refusalOf, shown}
-use Rattle.ibft_table.specs.Table.{lengthOf, startsOf, startOf, present, sizeOf, offsetOf, holdsEntry}
+use Rattle.table_header.specs.Verdict.{refusalOf, shown}
+use Rattle.table_header.specs.Header.{lengthOf}
+use Rattle.ibft_table.specs.Table.{startsOf, startOf, present, sizeOf, offsetOf, holdsEntry}
 use Rattle.ibft_table.specs.Check.{checkOf}
 use Rattle.ibft_table.specs.Record.{Record}
 use Rattle.ibft_table.specs.Readings.{initiatorIn, nicIn, targetIn, headerOf, slotCalled, entryCalled, slotVerdict, structureIn, indexShown, structureFrom, structureGot, structureOf, initiatorOf, nicOf, targetOf, entryVerdict, entryFrom, entryGot, entryOf, viewGot, viewOf}
-use Rattle.ibft_table.specs.declared.verdict.Refusal.{Refusal}
-use Rattle.ibft_table.specs.declared.verdict.Verdict.{Verdict}
-use Rattle.ibft_table.specs.declared.verdict.Verdict.the-variants.{Accepted, Refused}
+use Rattle.table_header.specs.declared.verdict.Refusal.{Refusal}
+use Rattle.table_header.specs.declared.verdict.Verdict.{Verdict}
+use Rattle.table_header.specs.declared.verdict.Verdict.the-variants.{Accepted, Refused}
 use Rattle.ibft_table.specs.declared.initiator.Initiator.{Initiator}
 use Rattle.ibft_table.specs.declared.nic.Nic.{Nic}
 use Rattle.ibft_table.specs.declared.target.Target.{Target}

@@ -18,16 +18,17 @@ use Rattle.octets.specs.Counting.{gather}
 use Rattle.octets.specs.Octets.{byte, sum, differs}
 use Rattle.hostname.specs.Hostname.{isHostName}
 use Rattle.ibft_table.specs.Layout.{Kind, control, nic, target, slotCount, entryCount, namedCount, extraMost, mostWords, leastIndex, kindOf, ownerOf, stringOf, controlAt, extensionsAt, chapAt}
-use Rattle.ibft_table.specs.Verdict.{Test, firstOf}
-use Rattle.ibft_table.specs.Table.{lengthOf, controlEndOf, wordCount, startAt, usedAt, kindAt, indexAt, endAt, heapOf, alike, extraWords, startsOf, startIn, presentIn, endIn, startOf, present, endOf, sizeOf, offsetOf, holdsEntry}
-use Rattle.ibft_table.specs.Check.{padded, headerTests, alien, reservedSet, alienControl, controlTests, misplaced, namedTests, twin, extraTests, flagTests, wordTests, overlap, overlapTests, entryTests, checkTests, checkOf}
-use Rattle.ibft_table.specs.declared.verdict.Verdict.the-variants.{Accepted}
+use Rattle.table_header.specs.Verdict.{Test, firstOf}
+use Rattle.table_header.specs.Header.{lengthOf, padded, headerTests}
+use Rattle.ibft_table.specs.Table.{controlEndOf, wordCount, startAt, usedAt, kindAt, indexAt, endAt, heapOf, alike, extraWords, startsOf, startIn, presentIn, endIn, startOf, present, endOf, sizeOf, offsetOf, holdsEntry}
+use Rattle.ibft_table.specs.Check.{alien, reservedSet, alienControl, controlTests, misplaced, namedTests, twin, extraTests, flagTests, wordTests, overlap, overlapTests, entryTests, checkTests, checkOf}
+use Rattle.table_header.specs.declared.verdict.Verdict.the-variants.{Accepted}
 use Rattle.ibft_laws.specs.Begins.{Begins}
 use Rattle.ibft_laws.specs.Facts.{ExtraFacts}
 use Rattle.octets.proofs.CountingLaws.{clash, any-same}
 use Rattle.octets.proofs.TestLaws.{same-differs}
 use Rattle.octets.proofs.CountLaws.{count-same}
-use Rattle.ibft_table.proofs.VerdictLaws.{passes, cons-same, append-same, append-passes, gather-verdict-same, gather-passes}
+use Rattle.table_header.proofs.VerdictLaws.{passes, cons-same, append-same, append-passes, gather-verdict-same, gather-passes}
 use Rattle.ibft_laws.proofs.LayoutLaws.{slot-fits, entry-fits}
 use Rattle.ibft_laws.proofs.AcceptedLaws.{placed-facts, control-facts, extra-facts}
 use Rattle.ibft_table.proofs.SeatLaws.{named-at}

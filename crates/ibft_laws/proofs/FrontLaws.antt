@@ -15,7 +15,7 @@ use Rattle.ibft_table.specs.Layout.{kindOf, indexOf, slotCount, namedCount, ent
 use Rattle.ibft_table.specs.Table.{wordCount, startAt, usedAt, endAt, heapOf, startsOf, indexIn, present, startOf, endOf, sizeOf, offsetOf, holdsEntry}
 use Rattle.ibft_table.specs.Check.{checkOf}
 use Rattle.ibft_table.specs.Record.{bodySize, contentIn, contentOf}
-use Rattle.ibft_table.specs.declared.verdict.Verdict.the-variants.{Accepted}
+use Rattle.table_header.specs.declared.verdict.Verdict.the-variants.{Accepted}
 use Rattle.ibft_table.proofs.CheckLaws.{heap-after-control}
 use Rattle.ibft_laws.specs.Begins.{Begins}
 use Rattle.ibft_laws.proofs.LayoutLaws.{slot-fits, entry-fits}

@@ -27,10 +27,11 @@ use Rattle.string_heap.proofs.Intervals.{Apart}
 use Rattle.string_heap.proofs.StoredLaws.{least-heap}
 use Rattle.string_heap.proofs.StartsLaws.{starts-least}
 use Rattle.ibft_table.specs.Layout.{slotCount, entryCount, namedCount, mostWords, kindOf, builtSlot, controlEnd, mayShare}
-use Rattle.ibft_table.specs.Table.{lengthOf, controlEndOf, extraWords, startsOf, startOf, present, endIn, heapOf, sizeOf, offsetOf}
+use Rattle.table_header.specs.Header.{lengthOf}
+use Rattle.ibft_table.specs.Table.{controlEndOf, extraWords, startsOf, startOf, present, endIn, heapOf, sizeOf, offsetOf}
 use Rattle.ibft_table.specs.Check.{checkOf}
 use Rattle.ibft_table.specs.Record.{Content, listed, shownIf, contentIn, contentOf, recordOf}
-use Rattle.ibft_table.specs.declared.verdict.Verdict.the-variants.{Accepted}
+use Rattle.table_header.specs.declared.verdict.Verdict.the-variants.{Accepted}
 use Rattle.ibft_table.specs.Order.{keepsOrder}
 use Rattle.ibft_table.specs.Secrets.{secretsApart}
 use Rattle.octets.proofs.TestLaws.{and-both}

@@ -13,12 +13,13 @@ use lib.Dec.{ltb}
 use lib.ListN.{getD}
 use Rattle.octets.specs.Octets.{byte}
 use Rattle.ibft_table.specs.Layout.{slotCount, entryCount, namedCount, ownerOf}
-use Rattle.ibft_table.specs.Verdict.{Test}
+use Rattle.table_header.specs.Verdict.{Test}
 use Rattle.ibft_table.specs.Table.{wordCount, extraWords, startAt, usedAt, startsOf, startIn, fieldIn, startsTo, startOf, holdsEntry, fieldOf}
-use Rattle.ibft_table.specs.Check.{headerTests, controlTests, namedTests, extraTests, flagTests, wordTests, overlapTests, entryTests, checkTests, checkOf}
-use Rattle.ibft_table.specs.declared.verdict.Refusal.{Refusal}
-use Rattle.ibft_table.specs.declared.verdict.Verdict.the-variants.{Refused}
-use Rattle.ibft_table.proofs.VerdictLaws.{Every, every-none, every-next, every-append, every-gather, every-cond, every-if, every-first}
+use Rattle.table_header.specs.Header.{headerTests}
+use Rattle.ibft_table.specs.Check.{controlTests, namedTests, extraTests, flagTests, wordTests, overlapTests, entryTests, checkTests, checkOf}
+use Rattle.table_header.specs.declared.verdict.Refusal.{Refusal}
+use Rattle.table_header.specs.declared.verdict.Verdict.the-variants.{Refused}
+use Rattle.table_header.proofs.VerdictLaws.{Every, every-none, every-next, every-append, every-gather, every-cond, every-if, every-first}
 use Rattle.ibft_laws.proofs.LayoutLaws.{slot-fits, entry-fits, entry-inside}
 use Rattle.ibft_table.proofs.SeatLaws.{named-at}
 use Rattle.ibft_laws.proofs.SeatLaws.{slot-word}

@@ -25,17 +25,17 @@ use Rattle.octets.specs.Octets.{byte, word16, part, differs}
 use Rattle.octets.proofs.ReadLaws.{bytes-part, part-from, part-at}
 use Rattle.octets.proofs.TestLaws.{and-other, or-both, differs-no}
 use Rattle.ibft_table.specs.Layout.{Kind, initiator, nic, target, slotCount, entryCount, kindOf, ownerOf, stringOf, nicSlot, targetSlot}
-use Rattle.ibft_table.specs.Verdict.{firstOf, refusalOf, shown}
+use Rattle.table_header.specs.Verdict.{firstOf, refusalOf, shown}
 use Rattle.ibft_table.specs.Table.{startsOf, indexIn, fieldIn, sizeIn, offsetIn, holdsIn, startOf, present, sizeOf, offsetOf, holdsEntry}
 use Rattle.ibft_table.specs.Check.{checkTests, checkOf}
 use Rattle.ibft_table.specs.Record.{Record, shownIf, bodySize, listed, contentIn, contentOf, recordOf}
 use Rattle.ibft_table.specs.Readings.{textAt, headerIn, initiatorIn, nicIn, targetIn, headerOf, slotCalled, entryCalled, slotVerdict, structureIn, indexShown, structureFrom, structureGot, structureOf, structureViewGot, structureViewOf, initiatorOf, nicOf, targetOf, entryVerdict, entryFrom, entryGot, entryOf, viewGot, viewOf}
 use Rattle.ibft_table.specs.declared.text.Text.{Text}
 use Rattle.ibft_table.specs.declared.entry.EntryReading.{EntryReading}
-use Rattle.ibft_table.specs.declared.verdict.Verdict.{Verdict}
-use Rattle.ibft_table.specs.declared.verdict.Verdict.the-variants.{Accepted, Refused}
+use Rattle.table_header.specs.declared.verdict.Verdict.{Verdict}
+use Rattle.table_header.specs.declared.verdict.Verdict.the-variants.{Accepted, Refused}
 use Rattle.ibft_laws.specs.Bodies.{initiatorFields, nicFields, targetFields, initiatorBody, nicBody, targetBody, initiatorFrom, nicFrom, targetFrom}
-use Rattle.ibft_table.proofs.VerdictLaws.{accept-cons, accept-none, pass-cons, fail-cons, append-accepted}
+use Rattle.table_header.proofs.VerdictLaws.{accept-cons, accept-none, pass-cons, fail-cons, append-accepted}
 use Rattle.ibft_laws.proofs.LayoutLaws.{slot-fits, entry-fits}
 use Rattle.ibft_laws.proofs.TableLaws.{present-past, present-below, holds-past, holds-below, length-least, length-le, slot-end-le, entry-owner-on, entry-length}
 use Rattle.ibft_laws.proofs.RecordLaws.{shown-some, shown-none, structure-listed, index-listed, entry-listed, structure-past, entry-past, table-presence-same}

@@ -19,9 +19,10 @@ use Rattle.octets.proofs.CountingLaws.{clash}
 use Rattle.octets.proofs.ReadLaws.{part-length, part-at}
 use Rattle.string_heap.proofs.TailsLaws.{Stands}
 use Rattle.ibft_table.specs.Layout.{slotCount, entryCount, kindOf, ownerOf}
-use Rattle.ibft_table.specs.Table.{lengthOf, extraWords, startsTo, startsOf, startIn, presentIn, startOf, present, endIn, endOf, heapOf, fieldIn, fieldOf, sizeOf, offsetOf, holdsIn, holdsEntry}
+use Rattle.table_header.specs.Header.{lengthOf}
+use Rattle.ibft_table.specs.Table.{extraWords, startsTo, startsOf, startIn, presentIn, startOf, present, endIn, endOf, heapOf, fieldIn, fieldOf, sizeOf, offsetOf, holdsIn, holdsEntry}
 use Rattle.ibft_table.specs.Check.{checkOf}
-use Rattle.ibft_table.specs.declared.verdict.Verdict.the-variants.{Accepted}
+use Rattle.table_header.specs.declared.verdict.Verdict.the-variants.{Accepted}
 use Rattle.ibft_laws.specs.Facts.{SlotFacts, EntryFacts, Disjoint, Facts}
 use Rattle.octets.proofs.TestLaws.{and-both, same-differs}
 use Rattle.ibft_table.proofs.SeatLaws.{starts-length}

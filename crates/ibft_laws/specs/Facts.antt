@@ -11,8 +11,8 @@ use Rattle.octets.specs.Counting.{count}
 use Rattle.octets.specs.Octets.{byte, word16, word32, part, sum}
 use Rattle.hostname.specs.Hostname.{isHostName}
 use Rattle.ibft_table.specs.Layout.{Kind, control, slotCount, namedCount, extraMost, leastIndex, mostWords, kindOf, controlAt, extensionsAt, chapAt, entryCount, stringOf}
-use Rattle.ibft_table.specs.Table.{lengthOf, controlLength, controlEndOf, wordCount, startAt, usedAt, kindAt, indexAt, endAt, heapOf, alike, startsOf, indexIn, startOf, present, endOf, sizeOf, offsetOf, holdsEntry}
-use Rattle.ibft_table.specs.Check.{padded}
+use Rattle.table_header.specs.Header.{lengthOf, padded}
+use Rattle.ibft_table.specs.Table.{controlLength, controlEndOf, wordCount, startAt, usedAt, kindAt, indexAt, endAt, heapOf, alike, startsOf, indexIn, startOf, present, endOf, sizeOf, offsetOf, holdsEntry}
 
 -- the header of a table with this signature, at least so many bytes lent and of at least this Length
 pub record HeaderFacts (signature leastLent leastLength : ℕ) (t : List ℕ) : Type 0 where

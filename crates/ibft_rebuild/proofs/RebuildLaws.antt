@@ -10,7 +10,7 @@ use native.Mathlib.Omega.{arith}
 use lib.ListN.{length, take}
 use Rattle.ibft_table.specs.Table.{startsOf}
 use Rattle.ibft_table.specs.Check.{checkOf}
-use Rattle.ibft_table.specs.declared.verdict.Verdict.the-variants.{Accepted}
+use Rattle.table_header.specs.declared.verdict.Verdict.the-variants.{Accepted}
 use Rattle.ibft_laws.proofs.TableLaws.{facts}
 use Rattle.ibft_laws.proofs.NumberingLaws.{nics-most, targets-most}
 use Rattle.build_rules.specs.RecordRange.{largestSize}

@@ -6,11 +6,11 @@ use build_rules::range::LARGEST_SIZE;
 use ibft_build::build::build;
 use ibft_table::check::check;
 use ibft_table::seats::starts_of;
-use ibft_table::verdict::Verdict;
+use table_header::verdict::Verdict;
 ghost use mathlib.Core.Path.{_≡_};
 ghost use lib.ListN.{length};
 ghost use Rattle.ibft_table.specs.Check.{checkOf};
-ghost use Rattle.ibft_table.specs.declared.verdict.Verdict.the-variants.{Accepted};
+ghost use Rattle.table_header.specs.declared.verdict.Verdict.the-variants.{Accepted};
 ghost use Rattle.build_rules.specs.Rebuild.{rebuildAnswer, rebuildRoom};
 ghost use Rattle.build_rules.specs.RebuildPromises.{Rebuild};
 

@@ -21,16 +21,17 @@ use Rattle.octets.specs.Octets.{part, differs}
 use Rattle.octets.proofs.CountingLaws.{clash}
 use Rattle.octets.proofs.TestLaws.{or-both}
 use Rattle.ibft_table.specs.Layout.{entryCount, slotCount, namedCount}
-use Rattle.ibft_table.specs.Verdict.{Test, refuse, firstOf, refusalOf, shown}
-use Rattle.ibft_table.specs.Table.{lengthOf, controlEndOf, wordCount, extraWords, startAt, usedAt, startsTo, startsOf, startIn, presentIn, sizeIn, offsetIn, holdsIn}
-use Rattle.ibft_table.specs.Check.{headerTests, controlTests, misplaced, namedTests, extraTests, flagTests, wordTests, overlapTests, entryTests, checkTests, checkOf}
+use Rattle.table_header.specs.Verdict.{Test, refuse, firstOf, refusalOf, shown}
+use Rattle.table_header.specs.Header.{lengthOf, headerTests}
+use Rattle.ibft_table.specs.Table.{controlEndOf, wordCount, extraWords, startAt, usedAt, startsTo, startsOf, startIn, presentIn, sizeIn, offsetIn, holdsIn}
+use Rattle.ibft_table.specs.Check.{controlTests, misplaced, namedTests, extraTests, flagTests, wordTests, overlapTests, entryTests, checkTests, checkOf}
 use Rattle.ibft_table.specs.Readings.{slotCalled, slotVerdict, structureIn, structureFrom, structureGot, structureOf, structureViewGot, structureViewOf, entryCalled, entryVerdict, entryFrom, entryGot, entryOf, viewGot, viewOf}
-use Rattle.ibft_table.specs.declared.verdict.Refusal.{Refusal}
-use Rattle.ibft_table.specs.declared.verdict.Verdict.{Verdict}
-use Rattle.ibft_table.specs.declared.verdict.Verdict.the-variants.{Accepted, Refused}
+use Rattle.table_header.specs.declared.verdict.Refusal.{Refusal}
+use Rattle.table_header.specs.declared.verdict.Verdict.{Verdict}
+use Rattle.table_header.specs.declared.verdict.Verdict.the-variants.{Accepted, Refused}
 use Rattle.ibft_table.proofs.LayoutLaws.{owner-past}
 use Rattle.ibft_table.proofs.SeatLaws.{starts-length, starts-below}
-use Rattle.ibft_table.proofs.VerdictLaws.{append-go, passes, append-passes, gather-passes, Every, every-none, every-next, every-append, every-gather, every-cond, every-if, every-first}
+use Rattle.table_header.proofs.VerdictLaws.{append-go, passes, append-passes, gather-passes, Every, every-none, every-next, every-append, every-gather, every-cond, every-if, every-first}
 
 -- ---- the check, then the tests of what is asked for
 

@@ -1,35 +1,17 @@
 -- The check: every test in the order of RULES.md, Refusals, each with its number and place. Assumes nothing: these are definitions.
 use Prim.Native.Nat.{ℕ, _+_, _*_, _%_}
 use mathlib.Core.List.{List, [], _∷_, _++_}
-use mathlib.Core.Bool.{Bool, true, cond, not, _&&_, _||_}
-use lib.ListN.{length, take}
+use mathlib.Core.Bool.{Bool, cond, not, _&&_, _||_}
 use lib.Dec.{leb, ltb, eqb}
 use lib.Bits.{bitAnd}
 use Rattle.octets.specs.Counting.{any, count, gather}
-use Rattle.octets.specs.Octets.{byte, word16, word32, part, allZero, sum, differs}
+use Rattle.octets.specs.Octets.{byte, word16, part, differs}
 use Rattle.hostname.specs.Hostname.{isHostName}
 use Rattle.ibft_table.specs.Layout.{Kind, control, namedCount, extraMost, leastIndex, controlAt, extensionsAt, wordAt, chapAt, entryCount, mostWords, stringOf}
-use Rattle.ibft_table.specs.Verdict.{Test, refuse, firstOf}
-use Rattle.ibft_table.specs.Table.{lengthOf, controlLength, controlEndOf, wordCount, startAt, usedAt, kindAt, indexAt, endAt, heapOf, alike, startsOf, fieldIn, sizeIn, offsetIn, holdsIn}
-use Rattle.ibft_table.specs.declared.verdict.Verdict.{Verdict}
-
--- after the first zero byte all bytes are zero
-unfoldable pub padded : List ℕ → Bool
-padded [] = true
-padded (b ∷ t) = cond (eqb b 0) (allZero t) (padded t)
-
--- the header of a table with this signature, at least so many bytes lent and of at least this Length
-unfoldable pub headerTests : ℕ → ℕ → ℕ → List ℕ → List Test
-headerTests signature leastLent leastLength t =
-    refuse 3 0 (ltb (length t) leastLent)
-    ∷ refuse 4 0 (differs (word32 t 0) signature)
-    ∷ refuse 5 4 (ltb (lengthOf t) leastLength)
-    ∷ refuse 5 4 (ltb (length t) (lengthOf t))
-    ∷ refuse 6 9 (differs (sum (take (lengthOf t) t) % 256) 0)
-    ∷ refuse 7 8 (differs (byte t 8) 1)
-    ∷ refuse 8 10 (not (padded (part t 10 6)))
-    ∷ refuse 8 16 (not (padded (part t 16 8)))
-    ∷ []
+use Rattle.table_header.specs.Verdict.{Test, refuse, firstOf}
+use Rattle.table_header.specs.Header.{lengthOf, headerTests}
+use Rattle.ibft_table.specs.Table.{controlLength, controlEndOf, wordCount, startAt, usedAt, kindAt, indexAt, endAt, heapOf, alike, startsOf, fieldIn, sizeIn, offsetIn, holdsIn}
+use Rattle.table_header.specs.declared.verdict.Verdict.{Verdict}
 
 -- another ID, version, length or Index stands at `start` than a structure of this kind has
 unfoldable pub alien : List ℕ → ℕ → Kind → ℕ → Bool

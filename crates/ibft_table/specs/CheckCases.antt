@@ -7,8 +7,8 @@ use Rattle.octets.specs.Octets.{le16, le32, zeros, checksum, write}
 use Rattle.ibft_table.specs.Layout.{control, controlAt, controlEnd, wordAt, kindOf, indexOf, chapAt}
 use Rattle.ibft_table.specs.Check.{checkOf}
 use Rattle.ibft_table.specs.Computing.{computing}
-use Rattle.ibft_table.specs.declared.verdict.Verdict.{Verdict}
-use Rattle.ibft_table.specs.declared.verdict.Verdict.the-variants.{Accepted, Refused}
+use Rattle.table_header.specs.declared.verdict.Verdict.{Verdict}
+use Rattle.table_header.specs.declared.verdict.Verdict.the-variants.{Accepted, Refused}
 
 -- a table of n bytes in which nothing is present: header, Control, zero bytes
 unfoldable pub blank : ℕ → List ℕ

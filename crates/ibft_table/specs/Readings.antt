@@ -7,11 +7,11 @@ use lib.ListN.{drop}
 use lib.Dec.{leb, eqb}
 use Rattle.octets.specs.Octets.{byte, word16, word64, part, bytesAt, allZero}
 use Rattle.ibft_table.specs.Layout.{kindOf, slotCount, entryCount, nicSlot, targetSlot, slotAt, entryAt}
-use Rattle.ibft_table.specs.Verdict.{refuse, firstOf, refusalOf, shown}
+use Rattle.table_header.specs.Verdict.{refuse, firstOf, refusalOf, shown}
 use Rattle.ibft_table.specs.Table.{startsOf, startIn, presentIn, indexIn, nicsIn, sizeIn, offsetIn, holdsIn}
 use Rattle.ibft_table.specs.Check.{checkTests, checkOf}
-use Rattle.ibft_table.specs.declared.verdict.Verdict.{Verdict}
-use Rattle.ibft_table.specs.declared.verdict.Verdict.the-variants.{Accepted, Refused}
+use Rattle.table_header.specs.declared.verdict.Verdict.{Verdict}
+use Rattle.table_header.specs.declared.verdict.Verdict.the-variants.{Accepted, Refused}
 use Rattle.ibft_table.specs.declared.control.Control.{Control}
 use Rattle.ibft_table.specs.declared.text.Text.{Text}
 use Rattle.ibft_table.specs.declared.header.Header.{Header}

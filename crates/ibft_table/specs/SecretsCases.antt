@@ -8,8 +8,8 @@ use Rattle.ibft_table.specs.Check.{checkOf}
 use Rattle.ibft_table.specs.Secrets.{secretsApart}
 use Rattle.ibft_table.specs.CheckCases.{blank, place, words, sealed}
 use Rattle.ibft_table.specs.Computing.{computing}
-use Rattle.ibft_table.specs.declared.verdict.Verdict.{Verdict}
-use Rattle.ibft_table.specs.declared.verdict.Verdict.the-variants.{Accepted}
+use Rattle.table_header.specs.declared.verdict.Verdict.{Verdict}
+use Rattle.table_header.specs.declared.verdict.Verdict.the-variants.{Accepted}
 
 -- a string of Target 0: where its words stand in the structure, its length, its offset
 record String : Type 0 where

@@ -11,8 +11,8 @@ use Rattle.ibft_table.specs.Record.{recordOf}
 use Rattle.ibft_table.specs.Readings.{structureOf, nicOf, targetOf}
 use Rattle.ibft_table.specs.Login.{loginOrderOf}
 use Rattle.ibft_table.specs.Computing.{computing}
-use Rattle.ibft_table.specs.declared.verdict.Verdict.{Verdict}
-use Rattle.ibft_table.specs.declared.verdict.Verdict.the-variants.{Accepted, Refused}
+use Rattle.table_header.specs.declared.verdict.Verdict.{Verdict}
+use Rattle.table_header.specs.declared.verdict.Verdict.the-variants.{Accepted, Refused}
 
 -- a table of n bytes with three extra words, nothing present
 blank : ℕ → List ℕ

@@ -2,15 +2,15 @@
 use crate::check_control::check_control;
 use crate::check_entries::check_entries;
 use crate::check_entries::heap_start;
-use crate::check_header::check_header;
 use crate::check_overlaps::check_overlaps;
 use crate::check_words::check_words;
 use crate::control::Control;
 use crate::header::Header;
-use crate::layout::length_of;
-use crate::verdict::Verdict;
 use crate::words::control_end;
 use crate::words::word_count;
+use table_header::header::check_header;
+use table_header::header::length_of;
+use table_header::verdict::Verdict;
 ghost use Rattle.ibft_table.specs.Promises.{Check};
 
 // The header, and a table in which nothing is present: Control stands behind the header, and the table ends with it.

@@ -1,11 +1,11 @@
 // The check that no two structures share a byte: refusal 14, for the earliest later word.
 use crate::layout::NAMED_COUNT;
-use crate::verdict::Verdict;
-use crate::verdict::refuse;
 use crate::words::end_at;
 use crate::words::named_end;
 use crate::words::start_at;
 use crate::words::word_at;
+use table_header::verdict::Verdict;
+use table_header::verdict::refuse;
 ghost use mathlib.Core.Path.{_≡_};
 ghost use mathlib.Core.Bool.{_&&_};
 ghost use Prim.Native.Nat.{ℕ, _-_, _≤_, _<_};
@@ -14,9 +14,9 @@ ghost use Rattle.octets.specs.Counting.{any, gather};
 ghost use Rattle.octets.specs.Octets.{differs};
 ghost use Rattle.ibft_table.specs.Layout.{namedCount, wordAt};
 ghost use Rattle.ibft_table.specs.Table.{wordCount, startAt, usedAt, endAt};
-ghost use Rattle.ibft_table.specs.Verdict.{firstOf};
+ghost use Rattle.table_header.specs.Verdict.{firstOf};
 ghost use Rattle.ibft_table.specs.Check.{overlap, overlapTests};
-ghost use Rattle.ibft_table.specs.declared.verdict.Verdict.the-variants.{Refused};
+ghost use Rattle.table_header.specs.declared.verdict.Verdict.the-variants.{Refused};
 
 // The refusal of the later one of two words whose structures share a byte.
 fn refuse_overlap(w: u8) -> Verdict

@@ -10,14 +10,14 @@ use crate::layout::index_of;
 use crate::layout::kind_of;
 use crate::seats::alike;
 use crate::seats::one_if;
-use crate::verdict::Verdict;
-use crate::verdict::refuse;
 use crate::words::end_at;
 use crate::words::index_at;
 use crate::words::kind_at;
 use crate::words::start_at;
 use crate::words::word_at;
 use octets::read::byte_at;
+use table_header::verdict::Verdict;
+use table_header::verdict::refuse;
 ghost use mathlib.Core.Path.{_≡_};
 ghost use mathlib.Core.Bool.{_||_};
 ghost use Prim.Native.Nat.{_+_, _-_, _%_, _≤_, _<_};
@@ -25,8 +25,9 @@ ghost use lib.Dec.{ltb};
 ghost use Rattle.octets.specs.Counting.{any, count, gather};
 ghost use Rattle.octets.specs.Octets.{differs};
 ghost use Rattle.ibft_table.specs.Layout.{namedCount, leastIndex};
-ghost use Rattle.ibft_table.specs.Table.{lengthOf, controlEndOf, wordCount, startAt, kindAt, indexAt, alike};
-ghost use Rattle.ibft_table.specs.Verdict.{firstOf};
+ghost use Rattle.table_header.specs.Header.{lengthOf};
+ghost use Rattle.ibft_table.specs.Table.{controlEndOf, wordCount, startAt, kindAt, indexAt, alike};
+ghost use Rattle.table_header.specs.Verdict.{firstOf};
 ghost use Rattle.ibft_table.specs.Check.{alien, twin, extraTests, flagTests, wordTests};
 
 // Structures start at multiples of 8, where Control ends or above.

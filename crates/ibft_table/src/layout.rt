@@ -3,32 +3,12 @@ use crate::control::Control;
 use crate::initiator::Initiator;
 use crate::nic::Nic;
 use crate::target::Target;
-use octets::read::u32_at;
 ghost use mathlib.Core.Path.{_≡_};
 ghost use mathlib.Core.Bool.{false};
 ghost use Prim.Native.Nat.{_<_};
 ghost use lib.ListN.{getD};
 ghost use Rattle.ibft_table.specs.Layout.{namedEntries, kindOf, kindField, indexOf, target, ownerOf, stringOf, string, mayShare, firstEntry};
 ghost use Rattle.ibft_table.specs.Shapes.{shapeOf, shapeStart, fieldShape, stringShape};
-ghost use Rattle.ibft_table.specs.Table.{lengthOf};
-
-// Where the header's fields stand.
-pub(crate) const LENGTH_AT: u32 = 4;
-
-pub(crate) const REVISION_AT: u32 = 8;
-
-pub(crate) const CHECKSUM_AT: u32 = 9;
-
-pub const OEM_ID_AT: u32 = 10;
-
-pub const OEM_TABLE_ID_AT: u32 = 16;
-
-// The Length field.
-pub(crate) fn length_of(t: &[u8]) -> u32
-    ensures { λ r. ⌜ r ≡ lengthOf (now (t .entry)) ⌝ }
-{
-    u32_at(t, LENGTH_AT as usize)
-}
 
 // A kind of structure: what it starts with, the mask of its flag bits that are not named, whether it has a CHAP type.
 pub struct Shape {

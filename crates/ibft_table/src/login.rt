@@ -2,14 +2,14 @@
 use crate::check::check;
 use crate::control::Control;
 use crate::layout::FLAGS_AT;
-use crate::reading::ACCEPTED;
 use crate::seats::starts_of;
 use crate::starts::index_in;
 use crate::starts::start_in;
 use crate::target::Target;
-use crate::verdict::Refusal;
-use crate::verdict::Verdict;
 use octets::read::byte_at;
+use table_header::verdict::ACCEPTED;
+use table_header::verdict::Refusal;
+use table_header::verdict::Verdict;
 ghost use mathlib.Core.Path.{_≡_};
 ghost use mathlib.Core.List.{[], _∷_};
 ghost use mathlib.Core.Bool.{cond};
@@ -17,7 +17,7 @@ ghost use Prim.Native.Nat.{_+_, _<_};
 ghost use lib.ListN.{set};
 ghost use lib.Dec.{ltb};
 ghost use Rattle.ibft_table.specs.Layout.{targetCount};
-ghost use Rattle.ibft_table.specs.declared.verdict.Verdict.the-variants.{Accepted};
+ghost use Rattle.table_header.specs.declared.verdict.Verdict.the-variants.{Accepted};
 ghost use Rattle.ibft_table.specs.Login.{targetFlags, valid, selected, chosen, targetIndex, orderIn, placed, loginOrderOf};
 
 const TARGET_COUNT: u8 = 8;

@@ -3,17 +3,17 @@ use crate::initiator::Initiator;
 use crate::layout::FLAGS_AT;
 use crate::layout::SLOT_COUNT;
 use crate::layout::kind_of;
-use crate::reading::ACCEPTED;
-use crate::reading::shown_of;
 use crate::reading::verdict_of;
 use crate::seats::starts_of;
 use crate::starts::index_in;
 use crate::starts::slot_at;
 use crate::starts::start_in;
-use crate::verdict::Refusal;
-use crate::verdict::Verdict;
 use octets::read::byte_at;
 use octets::read::part;
+use table_header::verdict::ACCEPTED;
+use table_header::verdict::Refusal;
+use table_header::verdict::Verdict;
+use table_header::verdict::shown_of;
 ghost use mathlib.Core.Path.{_≡_};
 ghost use Prim.Native.Nat.{_-_, _≤_};
 ghost use lib.ListN.{length};
@@ -22,7 +22,7 @@ ghost use Rattle.ibft_table.specs.Layout.{kindOf};
 ghost use Rattle.ibft_table.specs.Table.{startIn};
 ghost use Rattle.ibft_table.specs.Readings.{slotVerdict, structureIn, indexShown, structureOf};
 ghost use Rattle.ibft_table.specs.Promises.{StructureView};
-ghost use Rattle.ibft_table.specs.declared.verdict.Verdict.the-variants.{Accepted};
+ghost use Rattle.table_header.specs.declared.verdict.Verdict.the-variants.{Accepted};
 
 // A structure by slot: its kind as its ID, its Index, its start, its flags.
 pub struct StructureReading {

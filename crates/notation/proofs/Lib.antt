@@ -1,8 +1,9 @@
 pub mod NumberLaws
-pub mod MacLaws
+pub mod PairsLaws
 pub mod PciLaws
 pub mod PieceLaws
 pub mod AddressLaws
 pub mod GatherLaws
 pub mod AddressPutLaws
+pub mod WidthLaws
 pub mod EscapeLaws

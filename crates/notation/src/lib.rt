@@ -3,4 +3,5 @@ pub mod address;
 pub mod escape;
 pub mod mac;
 pub mod number;
+pub mod pairs;
 pub mod pci;

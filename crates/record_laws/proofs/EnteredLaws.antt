@@ -23,7 +23,7 @@ use Rattle.text.specs.Split.{before, trimEnd, trim, pieces}
 use Rattle.ibft_table.specs.Layout.{kindOf, entryCount, firstEntry}
 use Rattle.ibft_table.specs.Check.{checkOf}
 use Rattle.ibft_table.specs.Record.{Record, recordOf}
-use Rattle.ibft_table.specs.declared.verdict.Verdict.the-variants.{Accepted}
+use Rattle.table_header.specs.declared.verdict.Verdict.the-variants.{Accepted}
 use Rattle.record_text.specs.Fields.{firstStructure, firstIndexed, groupOf, isText, isAlways, fieldOf, fieldCount, plainCount}
 use Rattle.record_text.specs.Enter.{Draft, groupCount, groupNumber, givenAt, hasSlot, withValue, withString, capacity, stepOf, noField, saysNothing, lineStep, linesFrom}
 use Rattle.record_text.specs.Tell.{slotIn, kindNumber, indexHeld, recordField, isTold, lineWith, lineOf, groupText, recordText}

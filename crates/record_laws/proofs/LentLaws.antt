@@ -17,7 +17,7 @@ use Rattle.ibft_table.specs.Layout.{slotCount, entryCount, namedCount, extraMos
 use Rattle.ibft_table.specs.Table.{startsOf, nicsIn, present}
 use Rattle.ibft_table.specs.Check.{checkOf}
 use Rattle.ibft_table.specs.Record.{recordOf}
-use Rattle.ibft_table.specs.declared.verdict.Verdict.the-variants.{Accepted}
+use Rattle.table_header.specs.declared.verdict.Verdict.the-variants.{Accepted}
 use Rattle.ibft_laws.proofs.TableLaws.{facts}
 use Rattle.ibft_laws.proofs.NumberingLaws.{nics-most, nics-are, targets-most, targets-are}
 use Rattle.build_rules.specs.RecordRange.{largestSize, nicImage}

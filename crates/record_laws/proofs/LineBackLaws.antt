@@ -27,7 +27,8 @@ use Rattle.text.specs.Computing.{computing as of-text}
 use Rattle.text.proofs.SplitLaws.{same-equal, trim-part, trimEnd-whole, trim-whole, blanks-append, field-line, value-line, trim-line}
 use Rattle.notation.specs.Number.{digitByte, digits, padded}
 use Rattle.notation.specs.Address.{addressText}
-use Rattle.notation.specs.Mac.{colonPair, macText}
+use Rattle.notation.specs.Pairs.{colonPair, pairsText}
+use Rattle.notation.specs.Mac.{macText}
 use Rattle.notation.specs.Pci.{deviceText, pciText}
 use Rattle.notation.specs.Escape.{stringText}
 use Rattle.notation.proofs.PieceLaws.{lacks-append, lacks-each}
@@ -38,7 +39,7 @@ use Rattle.ibft_table.specs.Layout.{slotCount, namedCount, kindOf, indices, ind
 use Rattle.ibft_table.specs.Table.{startsOf, startIn, presentIn, indexIn}
 use Rattle.ibft_table.specs.Check.{checkOf}
 use Rattle.ibft_table.specs.Record.{recordOf, contentIn, contentOf}
-use Rattle.ibft_table.specs.declared.verdict.Verdict.the-variants.{Accepted}
+use Rattle.table_header.specs.declared.verdict.Verdict.the-variants.{Accepted}
 use Rattle.ibft_laws.proofs.RecordLaws.{index-listed}
 use Rattle.record_text.specs.Fields.{firstStructure, firstIndexed, kindCount, groupOf, isText, fieldOf, fieldCount, nameOf}
 use Rattle.record_text.specs.Value.{modes, chapTypes, valueText, fieldText}
@@ -174,7 +175,7 @@ module _ (p : ℕ → Bool) (other : any 16 (λ (d : ℕ). p (digitByte d)) ≡ 
         lacks-append p (colonPair (f k)) (gather (λ (j : ℕ). colonPair (f j)) (suc k) n) (rw colon (padded-lacks (f k))) (pairs-lack f (suc k) n)
 
     mac-lacks : (m : List ℕ) → lacks p (macText m) ≡ true
-    unfolding macText
+    unfolding macText pairsText
     mac-lacks m = lacks-append p (padded 2 16 (byte m 0)) _ (padded-lacks (byte m 0)) (pairs-lack (λ (k : ℕ). byte m (k + 1)) 0 5)
 
     pci-lacks : p (code ".") ≡ false → (w : ℕ) → lacks p (pciText w) ≡ true
@@ -184,7 +185,7 @@ module _ (p : ℕ → Bool) (other : any 16 (λ (d : ℕ). p (digitByte d)) ≡ 
         (rw colon (lacks-append p (padded 2 16 (w / 8 % 32)) _ (padded-lacks (w / 8 % 32)) (rw (dot, digit-fails (w % 8) (omega arith)))))
 
 mac-some : (m : List ℕ) → 0 < length (macText m)
-unfolding macText
+unfolding macText pairsText
 mac-some m = omega (arith, length-append (padded 2 16 (byte m 0)) (gather (λ (k : ℕ). colonPair (byte m (k + 1))) 0 5), padded-length 16 2 (byte m 0))
 
 pci-some : (w : ℕ) → 0 < length (pciText w)

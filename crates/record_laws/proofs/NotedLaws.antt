@@ -28,7 +28,7 @@ use Rattle.ibft_table.specs.Layout.{Kind, initiator, nic, target, slotCount, le
 use Rattle.ibft_table.specs.Table.{startsOf, indexIn, present}
 use Rattle.ibft_table.specs.Check.{checkOf}
 use Rattle.ibft_table.specs.Record.{Record, recordOf}
-use Rattle.ibft_table.specs.declared.verdict.Verdict.the-variants.{Accepted}
+use Rattle.table_header.specs.declared.verdict.Verdict.the-variants.{Accepted}
 use Rattle.build_rules.specs.Plan.{isPresent}
 use Rattle.record_text.specs.Fields.{firstStructure, firstIndexed, kindCount, fieldCount}
 use Rattle.record_text.specs.Enter.{indexCount, indexMark, isMarked, marksBelow, marksOf, extrasOf, mostOf, saysNothing, noted, linesNoted, namedMarks, noneNoted, slotOf, groupCount, hasSlot, lineFound}

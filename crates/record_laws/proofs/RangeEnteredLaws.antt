@@ -20,7 +20,7 @@ use Rattle.octets.proofs.ReadLaws.{part-length, part-at, bytes-elements, bytes-
 use Rattle.ibft_table.specs.Layout.{kindOf, flagsAt, slotCount, entryCount, namedCount, namedEntries, ownerOf, stringOf, firstEntry}
 use Rattle.ibft_table.specs.Table.{startOf, present, sizeOf, offsetOf, holdsEntry}
 use Rattle.ibft_table.specs.Record.{recordOf}
-use Rattle.ibft_table.specs.declared.verdict.Verdict.the-variants.{Accepted}
+use Rattle.table_header.specs.declared.verdict.Verdict.the-variants.{Accepted}
 use Rattle.ibft_table.proofs.LayoutLaws.{owner-named}
 use Rattle.ibft_laws.proofs.LayoutLaws.{entry-fits, slot-entry-owner}
 use Rattle.ibft_laws.proofs.TableLaws.{present-below, length-le, entry-owner-on, entry-kept}

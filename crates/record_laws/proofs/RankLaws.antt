@@ -19,7 +19,7 @@ use Rattle.octets.proofs.TestLaws.{and-both}
 use Rattle.ibft_table.specs.Layout.{Kind, nic, target, slotCount, namedCount, extraMost, leastIndex, extraNics, extraTargets, kindOf, indexOf, nicSlot, targetSlot}
 use Rattle.ibft_table.specs.Table.{startsOf, indexIn, present}
 use Rattle.ibft_table.specs.Check.{checkOf}
-use Rattle.ibft_table.specs.declared.verdict.Verdict.the-variants.{Accepted}
+use Rattle.table_header.specs.declared.verdict.Verdict.the-variants.{Accepted}
 use Rattle.ibft_laws.specs.Facts.{Facts}
 use Rattle.ibft_laws.proofs.AcceptedLaws.{accepted-facts}
 use Rattle.ibft_laws.proofs.NumberingLaws.{ExtrasOf, nic-extras, target-extras, extras-most, extras-are, index-least, index-up}

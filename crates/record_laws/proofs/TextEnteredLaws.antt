@@ -10,7 +10,7 @@ use Rattle.text.specs.Split.{pieces}
 use Rattle.ibft_table.specs.Layout.{entryCount}
 use Rattle.ibft_table.specs.Check.{checkOf}
 use Rattle.ibft_table.specs.Record.{recordOf}
-use Rattle.ibft_table.specs.declared.verdict.Verdict.the-variants.{Accepted}
+use Rattle.table_header.specs.declared.verdict.Verdict.the-variants.{Accepted}
 use Rattle.record_text.specs.Enter.{linesNoted, noneNoted, groupCount, blankDraft, noField, enteredFrom}
 use Rattle.record_text.specs.Tell.{recordText, ifAccepted, tableText}
 use Rattle.record_text.specs.Promises.{Bytes}

@@ -27,6 +27,7 @@ use Rattle.text.specs.Words.{wordsOf, wordAt, wordCount, wordSetText}
 use Rattle.text.specs.Computing.{computing as of-text}
 use Rattle.notation.specs.Number.{digits, padded}
 use Rattle.notation.specs.Address.{addressText}
+use Rattle.notation.specs.Pairs.{pairsText}
 use Rattle.notation.specs.Mac.{macText}
 use Rattle.notation.specs.Pci.{pciText}
 use Rattle.notation.proofs.NumberLaws.{digits-length, decimal-length}
@@ -34,7 +35,7 @@ use Rattle.notation.proofs.AddressLaws.{text-length as address-length}
 use Rattle.notation.proofs.EscapeLaws.{text-length as string-length}
 use Rattle.ibft_table.specs.Check.{checkOf}
 use Rattle.ibft_table.specs.Record.{recordOf}
-use Rattle.ibft_table.specs.declared.verdict.Verdict.the-variants.{Accepted}
+use Rattle.table_header.specs.declared.verdict.Verdict.the-variants.{Accepted}
 use Rattle.record_text.specs.Fields.{Group, oem, groups, groupNames, firstIndexed, groupOf, isText, isOem, fieldOf, fieldCount, indexText, dotted, nameOf}
 use Rattle.record_text.specs.Value.{modes, chapTypes, fits, valueText, fieldText}
 use Rattle.record_text.specs.Enter.{groupCount}
@@ -153,7 +154,7 @@ address-short bytes all small =
     rw (← is) (address-length bytes all small)
 
 mac-length : (bytes : List ℕ) → length (macText bytes) ≡ 17
-unfolding macText gather padded
+unfolding macText pairsText gather padded
 mac-length bytes = refl
 
 pci-length : (w : ℕ) → length (pciText w) ≡ 7

@@ -39,9 +39,10 @@ use Rattle.notation.specs.Escape.{stringOf, stringText}
 use Rattle.notation.proofs.EscapeLaws.{string-back}
 use Rattle.ibft_table.specs.Layout.{Kind, Field, initiator, kinds, slotCount, kindOf, chapAt, flagsAt, entryCount, firstEntry}
 use Rattle.ibft_table.specs.Table.{startOf, present, endIn, offsetOf, sizeOf, holdsEntry}
-use Rattle.ibft_table.specs.Check.{padded, checkOf}
+use Rattle.table_header.specs.Header.{padded}
+use Rattle.ibft_table.specs.Check.{checkOf}
 use Rattle.ibft_table.specs.Record.{Record, recordOf, listed, contentIn, contentOf, bodySize, shownIf}
-use Rattle.ibft_table.specs.declared.verdict.Verdict.the-variants.{Accepted}
+use Rattle.table_header.specs.declared.verdict.Verdict.the-variants.{Accepted}
 use Rattle.ibft_laws.specs.Facts.{SlotFacts}
 use Rattle.ibft_laws.proofs.AcceptedLaws.{accepted-facts}
 use Rattle.ibft_laws.proofs.LayoutLaws.{slot-fits, entry-fits, slot-entry, slot-entry-owner}

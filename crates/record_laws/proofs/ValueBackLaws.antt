@@ -26,12 +26,12 @@ use Rattle.notation.specs.Number.{digits}
 use Rattle.notation.proofs.NumberLaws.{numberUpTo-digits}
 use Rattle.notation.specs.Address.{readAddress, addressText}
 use Rattle.notation.proofs.AddressLaws.{address-back}
-use Rattle.notation.proofs.MacLaws.{mac-back}
+use Rattle.notation.proofs.PairsLaws.{mac-back}
 use Rattle.notation.specs.Pci.{readPci, pciText}
 use Rattle.notation.proofs.PciLaws.{pci-back}
 use Rattle.notation.specs.Escape.{stringOf}
 use Rattle.notation.proofs.EscapeLaws.{string-back}
-use Rattle.ibft_table.specs.Check.{padded}
+use Rattle.table_header.specs.Header.{padded}
 use Rattle.record_text.specs.Fields.{groupOf, fieldOf}
 use Rattle.record_text.specs.Value.{modes, chapTypes, wordByte, setByte, filled, numberBytes, valueBytes, fits, fieldBytes, oemText, valueText, fieldText}
 use Rattle.record_text.specs.Promises.{Bytes}

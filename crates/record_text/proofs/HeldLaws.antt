@@ -22,7 +22,7 @@ use Rattle.ibft_table.specs.Layout.{kindOf, flagsAt, slotCount, entryCount, fir
 use Rattle.ibft_table.specs.Table.{startsOf, indexIn, holdsIn, startOf, present, sizeOf, offsetOf, holdsEntry}
 use Rattle.ibft_table.specs.Check.{checkOf}
 use Rattle.ibft_table.specs.Record.{listed, shownIf, bodySize, contentIn, contentOf, recordOf}
-use Rattle.ibft_table.specs.declared.verdict.Verdict.the-variants.{Accepted}
+use Rattle.table_header.specs.declared.verdict.Verdict.the-variants.{Accepted}
 use Rattle.ibft_laws.proofs.LayoutLaws.{slot-entry, slot-entry-owner}
 use Rattle.ibft_laws.proofs.RecordLaws.{structure-listed, index-listed, entry-listed}
 use Rattle.ibft_laws.proofs.TableLaws.{length-least, length-le, slot-end-le}

@@ -23,9 +23,9 @@ use Rattle.ibft_table.specs.Table.{startsOf, startIn, presentIn, indexIn, field
 use Rattle.ibft_table.specs.Check.{checkOf}
 use Rattle.ibft_table.specs.Record.{shownIf, listed, contentIn, contentOf, recordOf}
 use Rattle.ibft_table.specs.declared.layout.Shape.{Shape}
-use Rattle.ibft_table.specs.declared.verdict.Verdict.{Verdict}
-use Rattle.ibft_table.specs.declared.verdict.Refusal.{Refusal}
-use Rattle.ibft_table.specs.declared.verdict.Verdict.the-variants.{Accepted, Refused}
+use Rattle.table_header.specs.declared.verdict.Verdict.{Verdict}
+use Rattle.table_header.specs.declared.verdict.Refusal.{Refusal}
+use Rattle.table_header.specs.declared.verdict.Verdict.the-variants.{Accepted, Refused}
 use Rattle.record_text.specs.Fields.{firstStructure, isSecret, plainCount, fieldCount, fieldOf}
 use Rattle.record_text.specs.Enter.{groupCount}
 use Rattle.record_text.specs.Tell.{kindNumber, indexHeld, recordField, isTold, lineWith, hiddenLine, lineOf, recordText, ifAccepted, tableText}

@@ -4,27 +4,25 @@
 -- Assumes nothing.
 use mathlib.Core.Path.{_≡_, refl, sym, ap, _∙_}
 use mathlib.Core.List.{List, [], _∷_, _++_}
-use mathlib.Core.Bool.{Bool, true, false, cond}
-use mathlib.Core.Option.{Option, none, some, Option·map, bind}
-use Prim.Native.Nat.{ℕ, suc, _+_, _-_, _^_, _≤_}
+use mathlib.Core.Bool.{true}
+use mathlib.Core.Option.{Option, none, some, Option·map}
+use Prim.Native.Nat.{ℕ, _-_, _^_, _≤_}
 use native.Mathlib.Decide.{decLe}
 use native.Mathlib.Omega.{arith}
 use borrow.Author.Tests.{eqb-true, leb-true, ne-eqb}
-use lib.ListN.{length, take, drop, length-append}
+use lib.ListN.{length, take, length-append}
 use lib.Seq.{length-take-le}
-use lib.Dec.{eqb, leb, ltb}
+use lib.Dec.{leb, ltb}
 use Rattle.octets.specs.Octets.{le16, le64, zeros}
-use Rattle.octets.proofs.CountingLaws.{clash, length-tabulate}
+use Rattle.octets.proofs.CountingLaws.{clash}
 use Rattle.octets.proofs.WriteLaws.{length-zeros}
-use Rattle.text.specs.Split.{pieces}
 use Rattle.text.specs.Words.{wordNumber, wordCount, readWordSet}
 use Rattle.text.specs.declared.words.WordSet.{WordSet}
 use Rattle.text.specs.declared.words.WordSet.the-variants.{Value as Set, Bad as NoSet}
 use Rattle.notation.specs.Number.{numberUpTo}
 use Rattle.notation.specs.Escape.{stringOf}
-use Rattle.notation.specs.Mac.{macForm, every, readMac}
 use Rattle.notation.specs.Pci.{readPci}
-use Rattle.notation.specs.Address.{exactly, filled as gapFilled, bytesOf, decimal, fourBytes, groups, side, gapAt, withGap, withoutGap, readSix, mapped, mappedFour, holds, colon, dot, readAddress}
+use Rattle.notation.proofs.WidthLaws.{unread, tested, address-width, mac-width}
 use Rattle.record_text.specs.Fields.{groupOf, fieldOf}
 use Rattle.record_text.specs.Value.{wordByte, setByte, filled, numberBytes, fits, valueBytes, fieldBytes}
 use Rattle.record_text.specs.declared.fields.Notation.{Notation}
@@ -32,15 +30,6 @@ use Rattle.record_text.specs.declared.fields.Notation.the-variants.{Oem,
 use Rattle.record_text.proofs.ValueLaws.{field-fits}
 
 -- ---- the bytes of each notation
-
--- no value is both read and not
-unread {ℓ} : {A : Type ℓ} {X : Type 0} {x : A} → none ≡ some x → X
-unread e = let z : _≡_ {A = ℕ} 0 1 = cc in absurd (omega arith)
-
--- bytes where a test passes, else none
-tested : (d : Bool) (bytes b : List ℕ) → cond d (some bytes) none ≡ some b → (d ≡ true) × (bytes ≡ b)
-tested true bytes b e = (refl, cc)
-tested false bytes b e = unread e
 
 filled-width : (width : ℕ) (o : Option (List ℕ)) (b : List ℕ) → filled width o ≡ some b → length b ≡ width
 filled-width width none b e = unread e
@@ -75,56 +64,6 @@ number-width : (width : ℕ) (text b : List ℕ) → width ≤ 8 → numberBytes
 unfolding numberBytes
 number-width width text b h e =
     mapped-width (λ (n : ℕ). take width (le64 n)) width (λ n. length-take-le width (le64 n) h) (numberUpTo (256 ^ width - 1) text) b e
-
--- one or the other
-either-width : (n : ℕ) (d : Bool) (x y : Option (List ℕ)) → ((b : List ℕ) → x ≡ some b → length b ≡ n) → ((b : List ℕ) → y ≡ some b → length b ≡ n)
-    → (b : List ℕ) → cond d x y ≡ some b → length b ≡ n
-either-width n true x y h k b e = h b e
-either-width n false x y h k b e = k b e
-
-exactly-width : (n : ℕ) (o : Option (List ℕ)) (b : List ℕ) → exactly n o ≡ some b → length b ≡ n
-exactly-width n none b e = unread e
-exactly-width n (some xs) b e =
-    let both = tested (eqb (length xs) n) xs b e in
-    ap length (sym (both .1)) ∙ eqb-true (length xs) n (both .0)
-
-four-width : (o : Option (List ℕ)) → ((b : List ℕ) → o ≡ some b → length b ≡ 4) → (b : List ℕ) → mappedFour o ≡ some b → length b ≡ 16
-four-width none h b e = unread e
-four-width (some xs) h b e =
-    let same : mapped xs ≡ b = cc in
-    omega (arith, ap length (sym same), length-append (zeros 10) (255 ∷ 255 ∷ xs), length-zeros 10, h xs refl)
-
-gap-width : (o p : Option (List ℕ)) (b : List ℕ) → gapFilled o p ≡ some b → length b ≡ 16
-gap-width none p b e = unread e
-gap-width (some xs) none b e = unread e
-gap-width (some xs) (some ys) b e =
-    let n = 16 - (length xs + length ys) in
-    let both = tested (leb (length xs + length ys) 14) (xs ++ (zeros n ++ ys)) b e in
-    let short : length xs + length ys ≤ 14 = leb-true (length xs + length ys) 14 (both .0) in
-    omega (arith, ap length (sym (both .1)), length-append xs (zeros n ++ ys), length-append (zeros n) ys, length-zeros n)
-
-address-width : (text b : List ℕ) → readAddress text ≡ some b → length b ≡ 16
-unfolding readAddress readSix withGap withoutGap fourBytes
-address-width text =
-    either-width 16 (holds colon text) (readSix text) (mappedFour (fourBytes text))
-    (either-width 16 (ltb (gapAt text) (length text)) (withGap text (gapAt text)) (withoutGap text)
-    (gap-width (side false (take (gapAt text) text)) (side true (drop (gapAt text + 2) text))) (exactly-width 16 (groups true text)))
-    (four-width (fourBytes text) (exactly-width 4 (bytesOf decimal decimal (pieces dot text))))
-
-every-width : (os : List (Option ℕ)) (b : List ℕ) → every os ≡ some b → length b ≡ length os
-unfolding every bind
-every-width [] b e = let same : [] ≡ b = cc in ap length (sym same)
-every-width (none ∷ os) b e = unread e
-every-width (some n ∷ os) b e = go (every os) (every-width os) b e
-  where
-    go : (rest : Option (List ℕ)) → ((b : List ℕ) → rest ≡ some b → length b ≡ length os) → (b : List ℕ) → Option·map (λ (ns : List ℕ). n ∷ ns) rest ≡ some b → length b ≡ suc (length os)
-    go none q b e = unread e
-    go (some ns) q b e = let same : n ∷ ns ≡ b = cc in ap length (sym same) ∙ ap suc (q ns refl)
-
-mac-width : (text b : List ℕ) → readMac text ≡ some b → length b ≡ 6
-unfolding readMac
-mac-width text =
-    either-width 6 (macForm text) _ none (λ b e. every-width _ b e ∙ length-tabulate _ 0 6) (λ b e. unread e)
 
 -- ---- the bytes of a field
 

@@ -12,8 +12,8 @@ use Rattle.text.specs.Put.{ascii}
 use Rattle.ibft_table.specs.Layout.{kindOf, flagsAt, firstEntry}
 use Rattle.ibft_table.specs.Record.{Record, recordOf}
 use Rattle.ibft_table.specs.Check.{checkOf}
-use Rattle.ibft_table.specs.declared.verdict.Verdict.{Verdict}
-use Rattle.ibft_table.specs.declared.verdict.Verdict.the-variants.{Accepted, Refused}
+use Rattle.table_header.specs.declared.verdict.Verdict.{Verdict}
+use Rattle.table_header.specs.declared.verdict.Verdict.the-variants.{Accepted, Refused}
 use Rattle.record_text.specs.Fields.{firstStructure, isText, isAlways, isSecret, fieldCount, plainCount, fieldOf, nameOf}
 use Rattle.record_text.specs.Value.{fieldText}
 use Rattle.record_text.specs.Enter.{groupCount}

@@ -28,6 +28,22 @@ impl Family {
         high: 0x100000,
         least: 48,
     };
+
+    // The AoE Boot Firmware Table: the bytes `aBFT`, the window 0x00000 to 0x9FFFF, 46 bytes.
+    pub const ABFT: Family = Family {
+        signature: 0x54464261,
+        low: 0,
+        high: 0xA0000,
+        least: 46,
+    };
+
+    // The SRP Boot Firmware Table: the bytes `sBFT`, the same window, a start of 48 bytes.
+    pub const SBFT: Family = Family {
+        signature: 0x54464273,
+        low: 0,
+        high: 0xA0000,
+        least: 48,
+    };
 }
 
 // What a scan answers: its number, 0 where a table is found, with the table's address and Length.

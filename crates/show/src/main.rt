@@ -1,5 +1,8 @@
-// The bench program: reads a table, up to 16,384 bytes of standard input, and prints what it says where the check accepts it, or
-// the one refusal that applies. Numbers are decimal.
+// The bench program: reads a table, up to 16,384 bytes of standard input, and prints what it says where the check of its family
+// accepts it, or the one refusal that applies. Numbers are decimal; a MAC address is written as usual. What has the signature of no
+// family is checked as an iBFT.
+use abft::reading::Abft;
+use abft::reading::read_abft;
 use ibft_table::check::check;
 use ibft_table::control::Control;
 use ibft_table::entry::read_entry;
@@ -11,10 +14,17 @@ use ibft_table::login::LoginOrder;
 use ibft_table::login::login_order;
 use ibft_table::nic::Nic;
 use ibft_table::structure::read_structure;
-use ibft_table::verdict::Verdict;
+use notation::mac::put_mac;
 use octets::read::byte_at;
 use octets::read::part;
 use octets::read::u32_at;
+use sbft::layout::Part;
+use sbft::layout::absent;
+use sbft::layout::offset_of;
+use sbft::layout::part_of;
+use scan::Family;
+use table_header::header::length_of;
+use table_header::verdict::Verdict;
 
 const STDOUT: i32 = 1;
 
@@ -119,10 +129,16 @@ fn show_mode(t: &[u8]) {
     }
 }
 
-fn show_table(t: &[u8]) {
-    print(b"table ");
-    print_number(u32_at(t, 4) as u64);
+// A table's Length, behind what it is called.
+fn show_length(name: &[u8], t: &[u8]) {
+    print(name);
+    print(b" ");
+    print_number(length_of(t) as u64);
     print(b"\n");
+}
+
+fn show_table(t: &[u8]) {
+    show_length(b"table", t);
     show_mode(t);
     show_structures(t);
     show_entries(t);
@@ -137,11 +153,88 @@ fn show_refusal(number: u8, place: u32) {
     print(b"\n");
 }
 
-fn show(t: &[u8]) {
+fn show_ibft(t: &[u8]) {
     match check(t) {
         Verdict::Accepted => show_table(t),
         Verdict::Refused(refusal) => show_refusal(refusal.number, refusal.place),
     }
+}
+
+// ---- the aBFT
+
+// A MAC address: six pairs of hexadecimal digits with colons between.
+fn print_mac(mac: [u8; 6]) {
+    let mut room = [0u8; 17];
+    let end = put_mac(&mut room, 0, &mac);
+    print(part(&room, 0, end));
+}
+
+fn show_abft_fields(fields: Abft) {
+    let mac = fields.mac;
+    print(b"shelf ");
+    print_number(fields.shelf as u64);
+    print(b"\nslot ");
+    print_byte(fields.slot);
+    print(b"\nmac ");
+    print_mac(mac);
+    print(b"\n");
+}
+
+fn show_abft(t: &[u8]) {
+    let reading = read_abft(t);
+    let refusal = reading.refusal;
+    if refusal.number != 0 {
+        show_refusal(refusal.number, refusal.place);
+        return;
+    }
+    show_length(b"abft", t);
+    let fields = reading.fields;
+    show_abft_fields(fields);
+}
+
+// ---- the sBFT
+
+// A part's line: where it starts and how many bytes it has.
+fn show_part(name: &[u8], t: &[u8], k: u8) {
+    print(name);
+    if absent(t, k) {
+        print(b" none\n");
+        return;
+    }
+    print(b" ");
+    print_number(offset_of(t, k) as u64);
+    print(b" ");
+    print_number(part_of(k).size as u64);
+    print(b"\n");
+}
+
+fn show_parts(t: &[u8]) {
+    show_length(b"sbft", t);
+    show_part(b"scsi", t, Part::SCSI);
+    show_part(b"srp", t, Part::SRP);
+    show_part(b"ib", t, Part::IB);
+}
+
+fn show_sbft(t: &[u8]) {
+    match sbft::check::check(t) {
+        Verdict::Accepted => show_parts(t),
+        Verdict::Refused(refusal) => show_refusal(refusal.number, refusal.place),
+    }
+}
+
+// ---- the family, by the signature
+
+fn show(t: &[u8]) {
+    let signature = u32_at(t, 0);
+    if signature == Family::ABFT.signature {
+        show_abft(t);
+        return;
+    }
+    if signature == Family::SBFT.signature {
+        show_sbft(t);
+        return;
+    }
+    show_ibft(t);
 }
 
 fn main() {

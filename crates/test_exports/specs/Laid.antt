@@ -3,6 +3,11 @@
 use Prim.Native.Nat.{ℕ}
 use mathlib.Core.List.{List, [], _∷_, _++_}
 use Rattle.octets.specs.Octets.{le16, le64}
+use Rattle.abft.specs.declared.reading.Abft.{Abft}
+use Rattle.sbft.specs.declared.reading.Start.{Start}
+use Rattle.sbft.specs.declared.reading.Scsi.{Scsi}
+use Rattle.sbft.specs.declared.reading.Srp.{Srp}
+use Rattle.sbft.specs.declared.reading.Ib.{Ib}
 use Rattle.ibft_table.specs.declared.text.Text.{Text}
 use Rattle.ibft_table.specs.declared.header.Header.{Header}
 use Rattle.ibft_table.specs.declared.initiator.Initiator.{Initiator}
@@ -53,3 +58,20 @@ laidTarget t =
     ++ (laidText (t .«chap_secret»)
     ++ (laidText (t .«reverse_name»)
     ++ laidText (t .«reverse_secret»)))))))))
+
+-- ---- the other two families
+
+unfoldable pub laidAbft : Abft → List ℕ
+laidAbft a = a .«oem_id» ++ (a .«oem_table_id» ++ (le16 (a .shelf) ++ (a .slot ∷ a .mac)))
+
+unfoldable pub laidStart : Start → List ℕ
+laidStart s = s .«oem_id» ++ s .«oem_table_id»
+
+unfoldable pub laidScsi : Scsi → List ℕ
+laidScsi s = s .lun
+
+unfoldable pub laidSrp : Srp → List ℕ
+laidSrp s = s .«initiator_port» ++ s .«target_port»
+
+unfoldable pub laidIb : Ib → List ℕ
+laidIb i = i .«source_gid» ++ (i .«destination_gid» ++ (i .service ++ le16 (i .«partition_key»)))

@@ -3,7 +3,7 @@
 -- Assumes nothing: these are definitions.
 use Prim.Native.Nat.{ℕ, _+_, _*_, _%_, _^_}
 use Rattle.octets.specs.Octets.{byte}
-use Rattle.ibft_table.specs.declared.verdict.Refusal.{Refusal}
+use Rattle.table_header.specs.declared.verdict.Refusal.{Refusal}
 use Rattle.ibft_table.specs.declared.structure.StructureReading.{StructureReading}
 use Rattle.ibft_table.specs.declared.entry.EntryReading.{EntryReading}
 use Rattle.ibft_table.specs.declared.login.LoginOrder.{LoginOrder}

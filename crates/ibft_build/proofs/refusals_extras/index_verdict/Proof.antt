@@ -5,7 +5,7 @@ use native.Mathlib.Omega.{arith}
 use borrow.Author.Tests.{lt-ltb, le-ltb, lt-leb, le-leb}
 use Rattle.octets.specs.Octets.{byte}
 use Rattle.ibft_table.specs.Layout.{extraMost, leastIndex}
-use Rattle.ibft_table.specs.Verdict.{firstOf}
+use Rattle.table_header.specs.Verdict.{firstOf}
 use borrow.Author.Needs.{needs}
 use Rattle.ibft_build.proofs.refusals_extras.index_verdict.Statement.{statement}
 use Rattle.ibft_build.proofs.refusals_extras.index_verdict.Tie as tie

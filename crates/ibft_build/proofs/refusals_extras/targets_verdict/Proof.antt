@@ -4,8 +4,8 @@ use Prim.Native.Nat.{ℕ, _+_, _-_, _≤_}
 use native.Mathlib.Omega.{arith}
 use Rattle.octets.specs.Counting.{gather}
 use Rattle.ibft_table.specs.Layout.{extraNics}
-use Rattle.ibft_table.specs.Verdict.{firstOf}
-use Rattle.ibft_table.proofs.VerdictLaws.{gather-stop, gather-go, gather-end}
+use Rattle.table_header.specs.Verdict.{firstOf}
+use Rattle.table_header.proofs.VerdictLaws.{gather-stop, gather-go, gather-end}
 use Rattle.build_rules.specs.RecordRange.{nicsGiven, targetsGiven, targetImage}
 use Rattle.build_rules.specs.Refusals.{indexTests}
 use borrow.Author.Needs.{needs}

@@ -1,7 +1,7 @@
 -- `flags_verdict` meets its contract: the one test. Assumes nothing.
 use mathlib.Core.Path.{sym, _∙_}
 use borrow.Author.Tests.{ne-eqb}
-use Rattle.ibft_table.specs.Verdict.{firstOf}
+use Rattle.table_header.specs.Verdict.{firstOf}
 use Rattle.ibft_table.specs.Check.{reservedSet}
 use Rattle.build_rules.specs.Refusals.{flagsTests}
 use borrow.Author.Needs.{needs}

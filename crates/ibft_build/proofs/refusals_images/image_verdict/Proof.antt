@@ -6,7 +6,7 @@ use lib.Bits.{bitAnd}
 use borrow.Author.Tests.{lt-ltb, le-ltb, ne-eqb, not-true, not-false}
 use Rattle.octets.specs.Octets.{byte, differs}
 use Rattle.ibft_table.specs.Layout.{kindOf, chapAt}
-use Rattle.ibft_table.specs.Verdict.{firstOf}
+use Rattle.table_header.specs.Verdict.{firstOf}
 use Rattle.ibft_table.specs.Check.{reservedSet}
 use Rattle.ibft_table.specs.declared.layout.Shape.{Shape}
 use Rattle.build_rules.specs.RecordRange.{imageAt, structureGiven}

@@ -4,8 +4,8 @@ use Prim.Native.Nat.{_-_, _≤_}
 use native.Mathlib.Omega.{arith}
 use Rattle.octets.specs.Counting.{gather}
 use Rattle.ibft_table.specs.Layout.{slotCount}
-use Rattle.ibft_table.specs.Verdict.{firstOf}
-use Rattle.ibft_table.proofs.VerdictLaws.{gather-stop, gather-go}
+use Rattle.table_header.specs.Verdict.{firstOf}
+use Rattle.table_header.proofs.VerdictLaws.{gather-stop, gather-go}
 use Rattle.build_rules.specs.Refusals.{imageTests}
 use Rattle.ibft_build.proofs.RefusalLaws.{images-end}
 use borrow.Author.Needs.{needs}

@@ -4,9 +4,9 @@ use mathlib.Core.Path.{_≡_, sym, ap, _∙_}
 use Prim.Native.Nat.{ℕ}
 use lib.ListN.{drop}
 use borrow.Author.Tests.{not-true, not-false}
-use Rattle.ibft_table.specs.Verdict.{firstOf}
-use Rattle.ibft_table.specs.Check.{padded}
-use Rattle.ibft_table.specs.declared.verdict.Verdict.{Verdict}
+use Rattle.table_header.specs.Verdict.{firstOf}
+use Rattle.table_header.specs.Header.{padded}
+use Rattle.table_header.specs.declared.verdict.Verdict.{Verdict}
 use Rattle.build_rules.specs.Refusals.{rangeTests}
 use borrow.Author.Needs.{needs}
 use Rattle.ibft_build.proofs.refusals_range.range_verdict.Statement.{statement}

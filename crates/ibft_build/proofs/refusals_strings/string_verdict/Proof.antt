@@ -10,9 +10,9 @@ use denote.Ref.{now}
 use Rattle.octets.specs.Octets.{part}
 use Rattle.hostname.specs.Hostname.{isHostName}
 use Rattle.ibft_table.specs.Layout.{stringOf}
-use Rattle.ibft_table.specs.Verdict.{firstOf}
+use Rattle.table_header.specs.Verdict.{firstOf}
 use Rattle.ibft_table.specs.declared.layout.StringShape.{StringShape}
-use Rattle.ibft_table.specs.declared.verdict.Verdict.{Verdict}
+use Rattle.table_header.specs.declared.verdict.Verdict.{Verdict}
 use Rattle.build_rules.specs.RecordRange.{entryGiven, bytesGiven}
 use Rattle.build_rules.specs.Refusals.{hasZero, stringTests}
 use borrow.Author.Needs.{needs}

@@ -1,6 +1,5 @@
 -- `put_table` meets its contract: the checksum is set last. Assumes nothing.
 use native.Mathlib.Omega.{arith}
-use Rattle.octets.proofs.WriteLaws.{length-written}
 use Rattle.ibft_build.proofs.PlanLaws.{known}
 use Rattle.ibft_build.proofs.TableLaws.{bare-length, table-is}
 use borrow.Author.Needs.{needs}
@@ -10,11 +9,6 @@ use Rattle.ibft_build.proofs.write_table.put_table.Tie as tie
 put-bare-requires : tie.Need-put-bare-requires
 put-bare-requires c κs = c .before .before .before .before .before .before .before .before .before .pre
 
-put-checksum-requires : tie.Need-put-checksum-requires
-put-checksum-requires c κs =
-    let p = c .before .before .before .before .before .before .before .before .before .before .before .before .before .pre in
-    omega (arith, p .1 .length-is, p .2, length-written _ _ _ _ (c .before .before .before .put-bare .ensures))
-
 returns : tie.Need-returns
 returns c =
     let p = c .before .before .before .before .before .before .before .before .before .before .before .before .before .before .before .before .pre in
@@ -23,4 +17,4 @@ returns c =
     table-is _ _ _ _ _ (bare-length _ _ (p .0) _ _ _ (plan .ends-are) (plan .wanted-are) (plan .offsets-are)) (omega (arith, k .whole, k .low, plan .length-is)) (p .2) (plan .length-is) (c .before .before .before .before .before .before .put-bare .ensures) (c .before .before .put-checksum .ensures)
 
 pub put-table-spec : {M : Type 1} → statement M
-put-table-spec = tie.close (tie.spec put-bare-requires put-checksum-requires (search needs) returns)
+put-table-spec = tie.close (tie.spec put-bare-requires (search needs) (search needs) returns)

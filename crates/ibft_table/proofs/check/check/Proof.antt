@@ -5,9 +5,9 @@ use Prim.Native.Nat.{ℕ}
 use Rattle.octets.specs.Counting.{gather}
 use Rattle.ibft_table.specs.Layout.{entryCount}
 use Rattle.ibft_table.specs.Table.{wordCount, startsOf}
-use Rattle.ibft_table.specs.Verdict.{Test, firstOf}
+use Rattle.table_header.specs.Verdict.{Test, firstOf}
 use Rattle.ibft_table.specs.Check.{controlTests, wordTests, overlapTests, entryTests, checkTests, checkOf}
-use Rattle.ibft_table.proofs.VerdictLaws.{append-stop, append-go}
+use Rattle.table_header.proofs.VerdictLaws.{append-stop, append-go}
 use Rattle.ibft_table.proofs.CheckLaws.{check-promise}
 use borrow.Author.Needs.{needs}
 use Rattle.ibft_table.proofs.check.check.Statement.{statement}

@@ -5,9 +5,9 @@ use Prim.Native.Nat.{ℕ, _-_, _≤_}
 use Rattle.octets.specs.Counting.{gather}
 use Rattle.ibft_table.specs.Layout.{entryCount, ownerOf}
 use Rattle.ibft_table.specs.Table.{startsOf}
-use Rattle.ibft_table.specs.Verdict.{firstOf}
+use Rattle.table_header.specs.Verdict.{firstOf}
 use Rattle.ibft_table.specs.Check.{entryTests}
-use Rattle.ibft_table.proofs.VerdictLaws.{gather-stop, gather-go}
+use Rattle.table_header.proofs.VerdictLaws.{gather-stop, gather-go}
 use Rattle.ibft_table.proofs.SeatLaws.{words-none, starts-none, entries-rest}
 use borrow.Author.Needs.{needs}
 use Rattle.ibft_table.proofs.check_entries.check_entries.Statement.{statement}

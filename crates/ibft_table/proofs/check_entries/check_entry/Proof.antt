@@ -9,11 +9,12 @@ use lib.Dec.{eqb}
 use borrow.Author.Tests.{lt-ltb, le-ltb, le-leb, lt-leb, eq-eqb, ne-eqb}
 use Rattle.octets.specs.Octets.{word16}
 use Rattle.ibft_table.specs.Layout.{ownerOf}
-use Rattle.ibft_table.specs.Table.{lengthOf, startIn, presentIn, heapOf, startsOf, fieldIn, sizeIn, offsetIn, holdsIn}
-use Rattle.ibft_table.specs.Verdict.{Test, firstOf}
+use Rattle.table_header.specs.Header.{lengthOf}
+use Rattle.ibft_table.specs.Table.{startIn, presentIn, heapOf, startsOf, fieldIn, sizeIn, offsetIn, holdsIn}
+use Rattle.table_header.specs.Verdict.{Test, firstOf}
 use Rattle.ibft_table.specs.Check.{entryTests}
 use Rattle.ibft_table.specs.declared.text.Text.{Text}
-use Rattle.ibft_table.proofs.VerdictLaws.{Passed}
+use Rattle.table_header.proofs.VerdictLaws.{Passed}
 use Rattle.ibft_table.proofs.CheckLaws.{differs-or, heap-after-control}
 use borrow.Author.Needs.{needs}
 use Rattle.ibft_table.proofs.check_entries.check_entry.Statement.{statement}

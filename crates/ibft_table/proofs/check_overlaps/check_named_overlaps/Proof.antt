@@ -4,10 +4,10 @@ use native.Mathlib.Omega.{arith}
 use Prim.Native.Nat.{_-_, _≤_}
 use Rattle.octets.specs.Counting.{gather}
 use Rattle.ibft_table.specs.Layout.{namedCount}
-use Rattle.ibft_table.specs.Verdict.{firstOf}
+use Rattle.table_header.specs.Verdict.{firstOf}
 use Rattle.ibft_table.specs.Check.{overlapTests}
-use Rattle.ibft_table.specs.declared.verdict.Verdict.the-variants.{Accepted}
-use Rattle.ibft_table.proofs.VerdictLaws.{gather-stop, gather-go, gather-end}
+use Rattle.table_header.specs.declared.verdict.Verdict.the-variants.{Accepted}
+use Rattle.table_header.proofs.VerdictLaws.{gather-stop, gather-go, gather-end}
 use borrow.Author.Needs.{needs}
 use Rattle.ibft_table.proofs.check_overlaps.check_named_overlaps.Statement.{statement}
 use Rattle.ibft_table.proofs.check_overlaps.check_named_overlaps.Tie as tie

@@ -3,9 +3,9 @@ use mathlib.Core.Path.{sym, _∙_}
 use native.Mathlib.Omega.{arith}
 use borrow.Author.Tests.{le-ltb, eq-eqb, ne-eqb}
 use Rattle.ibft_table.specs.Table.{startAt, usedAt}
-use Rattle.ibft_table.specs.Verdict.{firstOf}
+use Rattle.table_header.specs.Verdict.{firstOf}
 use Rattle.ibft_table.specs.Check.{flagTests, wordTests}
-use Rattle.ibft_table.proofs.VerdictLaws.{append-stop, append-go}
+use Rattle.table_header.proofs.VerdictLaws.{append-stop, append-go}
 use borrow.Author.Needs.{needs}
 use Rattle.ibft_table.proofs.check_words.check_extra.Statement.{statement}
 use Rattle.ibft_table.proofs.check_words.check_extra.Tie as tie

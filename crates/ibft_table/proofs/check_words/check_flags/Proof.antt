@@ -5,10 +5,10 @@ use Prim.Native.Nat.{_+_}
 use lib.Bits.{bitAnd}
 use Rattle.octets.specs.Octets.{byte, differs}
 use Rattle.ibft_table.specs.Table.{startAt, kindAt}
-use Rattle.ibft_table.specs.Verdict.{firstOf}
+use Rattle.table_header.specs.Verdict.{firstOf}
 use Rattle.ibft_table.specs.Check.{reservedSet, flagTests}
 use Rattle.ibft_table.specs.declared.layout.Shape.{Shape}
-use Rattle.ibft_table.proofs.VerdictLaws.{Passed}
+use Rattle.table_header.proofs.VerdictLaws.{Passed}
 use borrow.Author.Needs.{needs}
 use Rattle.ibft_table.proofs.check_words.check_flags.Statement.{statement}
 use Rattle.ibft_table.proofs.check_words.check_flags.Tie as tie

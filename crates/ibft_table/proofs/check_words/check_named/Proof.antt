@@ -12,10 +12,10 @@ use Rattle.octets.specs.Octets.{byte, differs}
 use Rattle.ibft_table.specs.Layout.{namedCount}
 use Rattle.ibft_table.specs.Shapes.{shapeOf}
 use Rattle.ibft_table.specs.Table.{startAt, usedAt, kindAt, indexAt}
-use Rattle.ibft_table.specs.Verdict.{Test, firstOf}
+use Rattle.table_header.specs.Verdict.{Test, firstOf}
 use Rattle.ibft_table.specs.Check.{alien, reservedSet, misplaced, namedTests, flagTests, wordTests}
 use Rattle.ibft_table.specs.declared.layout.Shape.{Shape}
-use Rattle.ibft_table.proofs.VerdictLaws.{Passed}
+use Rattle.table_header.proofs.VerdictLaws.{Passed}
 use Rattle.ibft_table.proofs.SeatLaws.{kind-named, index-named}
 use borrow.Author.Needs.{needs}
 use Rattle.ibft_table.proofs.check_words.check_named.Statement.{statement}

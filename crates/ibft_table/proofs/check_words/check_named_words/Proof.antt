@@ -4,9 +4,9 @@ use native.Mathlib.Omega.{arith}
 use Prim.Native.Nat.{_-_, _≤_}
 use Rattle.octets.specs.Counting.{gather}
 use Rattle.ibft_table.specs.Layout.{namedCount}
-use Rattle.ibft_table.specs.Verdict.{firstOf}
+use Rattle.table_header.specs.Verdict.{firstOf}
 use Rattle.ibft_table.specs.Check.{wordTests}
-use Rattle.ibft_table.proofs.VerdictLaws.{gather-stop, gather-go, gather-end}
+use Rattle.table_header.proofs.VerdictLaws.{gather-stop, gather-go, gather-end}
 use borrow.Author.Needs.{needs}
 use Rattle.ibft_table.proofs.check_words.check_named_words.Statement.{statement}
 use Rattle.ibft_table.proofs.check_words.check_named_words.Tie as tie

@@ -8,10 +8,11 @@ use Prim.Native.Nat.{_+_, _%_}
 use lib.Dec.{ltb}
 use Rattle.octets.specs.Octets.{differs}
 use Rattle.octets.specs.Counting.{any, count}
-use Rattle.ibft_table.specs.Table.{lengthOf, endAt, alike}
-use Rattle.ibft_table.specs.Verdict.{Test, firstOf}
+use Rattle.table_header.specs.Header.{lengthOf}
+use Rattle.ibft_table.specs.Table.{endAt, alike}
+use Rattle.table_header.specs.Verdict.{Test, firstOf}
 use Rattle.ibft_table.specs.Check.{misplaced, twin, extraTests}
-use Rattle.ibft_table.proofs.VerdictLaws.{Passed}
+use Rattle.table_header.proofs.VerdictLaws.{Passed}
 use borrow.Author.Needs.{needs}
 use Rattle.ibft_table.proofs.check_words.check_start.Statement.{statement}
 use Rattle.ibft_table.proofs.check_words.check_start.Tie as tie

@@ -5,9 +5,9 @@ use Prim.Native.Nat.{ℕ, _-_}
 use Rattle.octets.specs.Counting.{gather}
 use Rattle.ibft_table.specs.Layout.{namedCount}
 use Rattle.ibft_table.specs.Table.{wordCount}
-use Rattle.ibft_table.specs.Verdict.{firstOf}
+use Rattle.table_header.specs.Verdict.{firstOf}
 use Rattle.ibft_table.specs.Check.{wordTests}
-use Rattle.ibft_table.proofs.VerdictLaws.{split-stop, split-go}
+use Rattle.table_header.proofs.VerdictLaws.{split-stop, split-go}
 use Rattle.ibft_table.proofs.SeatLaws.{words-named}
 use borrow.Author.Needs.{needs}
 use Rattle.ibft_table.proofs.check_words.check_words.Statement.{statement}

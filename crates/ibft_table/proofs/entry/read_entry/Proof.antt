@@ -3,10 +3,10 @@ use mathlib.Core.Path.{_≡_, sym, _∙_}
 use mathlib.Core.List.{List}
 use Prim.Native.Nat.{ℕ}
 use Rattle.ibft_table.specs.Table.{startsOf, sizeIn, offsetIn}
-use Rattle.ibft_table.specs.Verdict.{refusalOf}
+use Rattle.table_header.specs.Verdict.{refusalOf}
 use Rattle.ibft_table.specs.Readings.{entryCalled, entryVerdict, entryFrom, entryGot, entryOf}
-use Rattle.ibft_table.specs.declared.verdict.Verdict.{Verdict}
-use Rattle.ibft_table.specs.declared.verdict.Verdict.the-variants.{Accepted, Refused}
+use Rattle.table_header.specs.declared.verdict.Verdict.{Verdict}
+use Rattle.table_header.specs.declared.verdict.Verdict.the-variants.{Accepted, Refused}
 use borrow.Author.Needs.{needs}
 use Rattle.ibft_table.proofs.entry.read_entry.Statement.{statement}
 use Rattle.ibft_table.proofs.entry.read_entry.Tie as tie

@@ -5,7 +5,7 @@ use borrow.Author.Tests.{lt-ltb, le-ltb}
 use mathlib.Core.List.{[], _∷_}
 use Rattle.octets.specs.Counting.{tabulate}
 use Rattle.ibft_table.specs.Layout.{targetCount}
-use Rattle.ibft_table.specs.Verdict.{refusalOf}
+use Rattle.table_header.specs.Verdict.{refusalOf}
 use Rattle.ibft_table.specs.Login.{placed}
 use Rattle.ibft_table.specs.declared.login.LoginOrder.{LoginOrder}
 use borrow.Author.Needs.{needs}

@@ -3,9 +3,9 @@ use mathlib.Core.Path.{sym, ap, _∙_}
 use mathlib.Core.List.{List}
 use Prim.Native.Nat.{ℕ}
 use Rattle.octets.specs.Counting.{tabulate}
-use Rattle.ibft_table.specs.Verdict.{refusalOf}
+use Rattle.table_header.specs.Verdict.{refusalOf}
 use Rattle.ibft_table.specs.Login.{orderIn, orderOf, placed, loginFrom, loginOrderOf}
-use Rattle.ibft_table.specs.declared.verdict.Verdict.the-variants.{Accepted}
+use Rattle.table_header.specs.declared.verdict.Verdict.the-variants.{Accepted}
 use borrow.Author.Needs.{needs}
 use Rattle.ibft_table.proofs.login.login_order.Statement.{statement}
 use Rattle.ibft_table.proofs.login.login_order.Tie as tie

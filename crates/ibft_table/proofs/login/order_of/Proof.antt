@@ -5,7 +5,7 @@ use Prim.Native.Nat.{_-_, _≤_}
 use mathlib.Core.Logic.{⊎-elim}
 use Rattle.ibft_table.specs.Layout.{targetCount}
 use Rattle.ibft_table.specs.Login.{placed}
-use Rattle.ibft_table.specs.declared.verdict.Verdict.the-variants.{Accepted}
+use Rattle.table_header.specs.declared.verdict.Verdict.the-variants.{Accepted}
 use Rattle.ibft_table.proofs.LoginLaws.{orderTo, order-all, order-none, order-lead, order-invalid, place-left, placed-next, behind}
 use borrow.Author.Needs.{needs}
 use Rattle.ibft_table.proofs.login.order_of.Statement.{statement}

@@ -1,8 +1,8 @@
 -- `read_structure` meets its contract, by cases of its verdict. Assumes nothing.
 use mathlib.Core.Path.{_≡_, sym, _∙_}
-use Rattle.ibft_table.specs.Verdict.{refusalOf}
+use Rattle.table_header.specs.Verdict.{refusalOf}
 use Rattle.ibft_table.specs.Readings.{structureFrom, structureGot, structureOf}
-use Rattle.ibft_table.specs.declared.verdict.Verdict.the-variants.{Accepted, Refused}
+use Rattle.table_header.specs.declared.verdict.Verdict.the-variants.{Accepted, Refused}
 use Rattle.ibft_table.proofs.ReadingLaws.{slotJudged}
 use borrow.Author.Needs.{needs}
 use Rattle.ibft_table.proofs.structure.read_structure.Statement.{statement}

@@ -6,7 +6,7 @@ use lib.ListN.{length, drop}
 use Rattle.octets.specs.Octets.{part}
 use Rattle.octets.proofs.ReadLaws.{part-rest}
 use Rattle.ibft_table.specs.Table.{startIn}
-use Rattle.ibft_table.specs.Verdict.{shown}
+use Rattle.table_header.specs.Verdict.{shown}
 use Rattle.ibft_table.specs.Readings.{structureIn}
 use borrow.Author.Needs.{needs}
 use Rattle.ibft_table.proofs.structure.structure_part.Statement.{statement}

@@ -1,7 +1,4 @@
--- `put_mac` meets its contract: the first byte, and behind it the others. Assumes nothing.
-use mathlib.Core.Path.{ap}
-use Rattle.text.proofs.PutLaws.{puts-append, puts-same}
-use Rattle.notation.specs.Number.{padded}
+-- `put_mac` meets its contract: six pairs. Assumes nothing.
 use Rattle.notation.specs.Mac.{macText}
 use borrow.Author.Needs.{needs}
 use Rattle.notation.proofs.mac.put_mac.Statement.{statement}
@@ -9,10 +6,7 @@ use Rattle.notation.proofs.mac.put_mac.Tie as tie
 
 returns : tie.Need-returns
 unfolding macText
-returns c =
-    puts-append
-    (puts-same (c .before .before .before .before .before .before .put-hex-byte .ensures) (ap (padded 2 16) (c .before .before .before .before .before .before .before .byte-at .ensures)))
-    (c .before .before .put-colon-pairs .ensures)
+returns c = c .before .before .put-pairs .ensures
 
 pub put-mac-spec : {M : Type 1} → statement M
-put-mac-spec = tie.close (tie.spec (search needs) (search needs) (search needs) (search needs) returns)
+put-mac-spec = tie.close (tie.spec (search needs) (search needs) returns)

@@ -1,0 +1,2 @@
+pub mod AbftLaws
+pub mod PlaceLaws

@@ -1,0 +1,5 @@
+pub mod LayoutLaws
+pub mod ReadingLaws
+pub mod PutLaws
+pub mod SbftLaws
+pub mod PlaceLaws

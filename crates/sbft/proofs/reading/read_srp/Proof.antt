@@ -1,0 +1,12 @@
+-- `read_srp` meets its contract: the fields of what the part's verdict shows. Assumes nothing.
+use Rattle.sbft.specs.Readings.{partIn, srpOf}
+use borrow.Author.Needs.{needs}
+use Rattle.sbft.proofs.reading.read_srp.Statement.{statement}
+use Rattle.sbft.proofs.reading.read_srp.Tie as tie
+
+returns : tie.Need-returns
+unfolding partIn srpOf
+returns c = rw (c .read .ensures, c .before .part-in .ensures, c .before .before .refusal-of .ensures, c .before .before .before .part-verdict .ensures)
+
+pub read-srp-spec : {M : Type 1} → statement M
+read-srp-spec = tie.close (tie.spec (search needs) (search needs) (search needs) (search needs) returns)

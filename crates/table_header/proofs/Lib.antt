@@ -1,0 +1,5 @@
+pub mod VerdictLaws
+pub mod HeaderLaws
+pub mod WriteLaws
+pub mod SealedLaws
+pub mod PlaceLaws

@@ -1,0 +1,15 @@
+-- `put_scsi` meets its contract: each value is written right behind the one before. Assumes nothing.
+use mathlib.Core.Path.{refl}
+use Rattle.test_exports.specs.Laid.{laidScsi}
+use Rattle.test_exports.proofs.PutsLaws.{behind}
+use borrow.Author.Needs.{needs}
+use Rattle.test_exports.proofs.sbft_readings.put_scsi.Statement.{statement}
+use Rattle.test_exports.proofs.sbft_readings.put_scsi.Tie as tie
+
+returns : tie.Need-returns
+unfolding laidScsi
+returns c =
+    c .before .before .put-eight .ensures
+
+pub put-scsi-spec : {M : Type 1} → statement M
+put-scsi-spec = tie.close (tie.spec (search needs) (search needs) returns)
