@@ -196,7 +196,7 @@ fn all_said() -> Vec<String> {
     ];
     let mut all: Vec<String> = known.iter().map(|said| said.to_string()).collect();
     for (_, notation) in [rows(&ABFT), rows(&SBFT)].concat() {
-        all.push(notation.reason());
+        all.push(reason(notation));
     }
     for text in FOUND_ORDER {
         for stray in FOUND_ORDER.iter().filter(|stray| **stray != text) {

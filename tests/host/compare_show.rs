@@ -1,9 +1,11 @@
-//! The program `show` held to model_show.rs. The environment variable SHOW names the program; each
+//! The program `show` held to model_show.rs, and to model_family_text.rs where damage makes a table one of
+//! another family. The environment variable SHOW names the program; each
 //! input is one run of it.
 
 use crate::model_check::check;
+use crate::model_family_text::show;
 use crate::model_layout::{NIC, TARGET};
-use crate::model_show::{show, INPUT_LIMIT};
+use crate::model_show::INPUT_LIMIT;
 use crate::refusals::Refusals;
 use crate::running::{fed, program, run, Fed};
 use crate::samples::SAMPLES;

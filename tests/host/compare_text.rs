@@ -8,6 +8,7 @@ use crate::known_values::known_values_agree;
 use crate::model_build::table_of;
 use crate::model_check::Refusal;
 use crate::model_enter_tell::*;
+use crate::model_family_text::{enter, tell, tell_hidden};
 use crate::model_record::{record_read, Record};
 use crate::model_text::{record_of, text_of, LONGEST_TEXT};
 use crate::running::{fed, program, run, run_with, Fed};

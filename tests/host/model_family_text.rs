@@ -77,18 +77,28 @@ pub fn family_of(text: &[u8]) -> Family {
 
 // ---- From text to table ----
 
+/// The lines above a line, which is counted from 1.
+fn lines_before(text: &[u8], line: usize) -> Vec<u8> {
+    let lines: Vec<&[u8]> = text.split(|&byte| byte == b'\n').take(line - 1).collect();
+    lines.join(&b'\n')
+}
+
 type Values = BTreeMap<&'static str, Vec<u8>>;
 
+/// The first line that cannot be read is answered: one of another family, or one before it.
 pub fn enter(text: &[u8]) -> Entered {
     let family = family_of(text);
     let stray = lines_with_family(text)
         .into_iter()
         .find(|(_, other)| *other != family);
     match stray {
-        Some((line, other)) if text.len() <= LONGEST_TEXT => Entered::Unread(format!(
-            "enter: line {}: this field is of an {}, and the text of an {}",
-            line, other.name, family.name
-        )),
+        Some((line, other)) if text.len() <= LONGEST_TEXT => match enter(&lines_before(text, line)) {
+            Entered::Unread(reason) => Entered::Unread(reason),
+            _ => Entered::Unread(format!(
+                "enter: line {}: this field is of an {}, and the text of an {}",
+                line, other.name, family.name
+            )),
+        },
         _ if family == IBFT || text.len() > LONGEST_TEXT => ibft::enter(text),
         _ => match values_of(&family, text) {
             Ok(values) => built(&family, &values),
@@ -109,12 +119,20 @@ fn values_of(family: &Family, text: &[u8]) -> Result<Values, (usize, String)> {
     Ok(values)
 }
 
+/// What is said of a value that cannot be read. A GID is written as an address and is none of IP.
+pub fn reason(notation: Notation) -> String {
+    match notation {
+        Address => "the value is not an address, as fe80::2:c903:0:1491".to_string(),
+        _ => notation.reason(),
+    }
+}
+
 fn read_line(row: Option<Row>, value: &[u8], before: &Values) -> Result<(&'static str, Vec<u8>), String> {
     let (name, notation) = row.ok_or("there is no such field")?;
     if before.contains_key(name) {
         return Err("this field was given before".to_string());
     }
-    let value = notation.read(value).ok_or_else(|| notation.reason())?;
+    let value = notation.read(value).ok_or_else(|| reason(notation))?;
     match notation {
         Filled(most) if value.len() > most => Err(format!("the string has more than {} bytes", most)),
         _ => Ok((name, value)),
@@ -242,6 +260,14 @@ pub fn tell(input: &[u8]) -> String {
         }
     }
     text
+}
+
+/// The same with secrets hidden, which only an iBFT has.
+pub fn tell_hidden(input: &[u8]) -> String {
+    match family_of_table(input) {
+        IBFT => ibft::tell_hidden(input),
+        _ => tell(input),
+    }
 }
 
 pub fn show(input: &[u8]) -> String {

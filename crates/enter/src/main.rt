@@ -85,6 +85,10 @@ fn say_no_string() {
     say(b"bytes below 0x20 are written \\xHH, an empty string \"\"");
 }
 
+fn say_no_mac() {
+    say(b"the value is not a MAC address, as 02:00:5e:10:00:07");
+}
+
 // Why the value of the field cannot be read.
 fn say_unreadable(field: FieldName) {
     let layout = field_at(field.kind, field.field);
@@ -96,7 +100,7 @@ fn say_unreadable(field: FieldName) {
         Notation::Number => say_range(layout.width),
         Notation::Port => say_range(layout.width),
         Notation::Address => say(b"the value is not an IP address"),
-        Notation::Mac => say(b"the value is not a MAC address, as 02:00:5e:10:00:07"),
+        Notation::Mac => say_no_mac(),
         Notation::Pci => say(b"the value is not a PCI address, as 00:03.1"),
         Notation::Chap => say(b"the value is not one of: none one-way mutual"),
         Notation::Text => say_no_string(),
@@ -329,7 +333,12 @@ fn say_image_unreadable(family: u8, n: u8) {
     }
 }
 
+// (Six pairs are a MAC address.)
 fn say_no_pairs(width: u8) {
+    if width == 6 {
+        say_no_mac();
+        return;
+    }
     say(b"the value is not ");
     say_number(width as u64);
     say(b" pairs of hexadecimal digits with colons between");

@@ -3,3 +3,10 @@ pub mod ValueLaws
 pub mod FamilyLaws
 pub mod EnterLaws
 pub mod TellLaws
+pub mod HeldLaws
+pub mod ValueBackLaws
+pub mod LineBackLaws
+pub mod EnteredLaws
+pub mod PresentLaws
+pub mod FamilyBackLaws
+pub mod RoundTripLaws

@@ -32,7 +32,10 @@ stray : ℕ → ℕ → Stray
 stray line family = record { line = line; family = family }
 
 strays : map strayIn
-    (text ("abft.shelf 1" ∷ "oem.id M" ∷ "abft.slot 2" ∷ []) ∷ text ("abft.shelf 1" ∷ "oem.id M" ∷ "control multi" ∷ "sbft.lun 1" ∷ []) ∷ text ("" ∷ "nic0.vlan 1" ∷ "sbft.lun" ∷ []) ∷ [])
+    (text ("abft.shelf 1" ∷ "oem.id M" ∷ "abft.slot 2" ∷ [])
+    ∷ text ("abft.shelf 1" ∷ "oem.id M" ∷ "control multi" ∷ "sbft.lun 1" ∷ [])
+    ∷ text ("" ∷ "nic0.vlan 1" ∷ "sbft.lun" ∷ [])
+    ∷ [])
     ≡ stray 0 0 ∷ stray 3 ibft ∷ stray 3 sbft ∷ []
 unfolding computing text stray
 strays = refl

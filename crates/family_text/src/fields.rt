@@ -10,7 +10,8 @@ ghost use Rattle.text.specs.Put.{Puts};
 ghost use Rattle.family_text.specs.Fields.{field, abftFields, sbftFields, fieldCount, fieldOf, nameOf, fieldNamed};
 ghost use Rattle.family_text.specs.declared.fields.Notation.the-variants.{Oem};
 
-// The families by number. A line may be of none.
+// The families by number. A line may be of none. The fields here are those of an aBFT and of an sBFT: every number but the sBFT's is taken for the
+// aBFT's, since an iBFT has a text of its own (record_text).
 pub const IBFT: u8 = 0;
 
 pub const ABFT: u8 = 1;

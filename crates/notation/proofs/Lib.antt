@@ -7,3 +7,4 @@ pub mod GatherLaws
 pub mod AddressPutLaws
 pub mod WidthLaws
 pub mod EscapeLaws
+pub mod LineLaws

@@ -7,34 +7,30 @@
 --     told-line-string        so is a string
 -- Assumes nothing.
 use mathlib.Core.Path.{_≡_, refl, sym, ap, _∙_}
-use mathlib.Core.List.{List, [], _∷_, _++_, append-nil, append-assoc}
+use mathlib.Core.List.{List, [], _∷_, _++_, append-assoc}
 use mathlib.Core.Bool.{Bool, true, false, cond, not, _&&_, _||_}
 use mathlib.Core.Option.{some}
 use Prim.Native.Char.{code}
-use Prim.Native.Nat.{ℕ, zero, suc, _+_, _^_, _/_, _%_, _≤_, _<_}
+use Prim.Native.Nat.{ℕ, _+_, _^_, _/_, _%_, _≤_, _<_}
 use native.Mathlib.Decide.{decLt}
 use native.Mathlib.Omega.{arith}
 use borrow.Author.Tests.{eqb-true, ltb-true, lt-ltb, le-ltb, le-leb, ne-eqb, not-true, not-false}
-use lib.ListN.{length, getD, take, drop, length-append, length-take, length-drop, List·getD-append}
+use lib.ListN.{length, getD, take, length-append, List·getD-append}
 use lib.Dec.{eqb, ltb}
-use Rattle.octets.specs.Counting.{first, any, tabulate, gather}
-use Rattle.octets.specs.Octets.{byte, word16, word64, bytesAt, part}
+use Rattle.octets.specs.Counting.{first, any}
+use Rattle.octets.specs.Octets.{byte, word16, word64, bytesAt}
 use Rattle.octets.proofs.CountingLaws.{any-none, each-holds}
 use Rattle.octets.proofs.TestLaws.{and-both, and-other, or-no}
-use Rattle.text.specs.Split.{isBlank, is, indexOf, same, each, blanks, trimEnd, trim, lacks}
+use Rattle.text.specs.Split.{isBlank, is, indexOf, same, each, trimEnd, trim, lacks}
 use Rattle.text.specs.Words.{wordAt, wordCount, wordSetText, goodList}
 use Rattle.text.specs.Computing.{computing as of-text}
-use Rattle.text.proofs.SplitLaws.{same-equal, trim-part, trimEnd-whole, trim-whole, blanks-append, field-line, value-line, trim-line}
-use Rattle.notation.specs.Number.{digitByte, digits, padded}
-use Rattle.notation.specs.Address.{addressText}
-use Rattle.notation.specs.Pairs.{colonPair, pairsText}
+use Rattle.text.proofs.SplitLaws.{same-equal, field-line, value-line, trim-line}
+use Rattle.notation.specs.Number.{digitByte, padded}
 use Rattle.notation.specs.Mac.{macText}
 use Rattle.notation.specs.Pci.{deviceText, pciText}
-use Rattle.notation.specs.Escape.{stringText}
-use Rattle.notation.proofs.PieceLaws.{lacks-append, lacks-each}
-use Rattle.notation.proofs.NumberLaws.{digits-some, padded-each, padded-length}
-use Rattle.notation.proofs.AddressLaws.{text-lacks, text-some}
-use Rattle.notation.proofs.EscapeLaws.{text-nonempty, text-line, text-whole}
+use Rattle.notation.proofs.PieceLaws.{lacks-append}
+use Rattle.notation.proofs.LineLaws.{Whole, whole-lacks, string-whole, pair-lacks, number-whole, pairs-whole, address-whole, blank-other, feed-other}
+use Rattle.notation.proofs.NumberLaws.{padded-length}
 use Rattle.ibft_table.specs.Layout.{slotCount, namedCount, kindOf, indices, indexOf as namedIndex}
 use Rattle.ibft_table.specs.Table.{startsOf, startIn, presentIn, indexIn}
 use Rattle.ibft_table.specs.Check.{checkOf}
@@ -51,7 +47,7 @@ use Rattle.record_text.specs.declared.fields.Found.the-variants.{Named}
 use Rattle.record_text.specs.declared.fields.Notation.{Notation}
 use Rattle.record_text.specs.declared.fields.Notation.the-variants.{Oem, Mode, Flags, Number, Port, Address, Mac, Pci, Chap, Text}
 use Rattle.record_laws.proofs.Entered.{nameIn}
-use Rattle.record_laws.proofs.NameBackLaws.{number-lacks, Indexed, NameFacts, name-facts}
+use Rattle.record_laws.proofs.NameBackLaws.{Indexed, NameFacts, name-facts}
 use Rattle.record_text.proofs.ValueLaws.{each-at}
 use Rattle.record_laws.proofs.ValueBackLaws.{Said}
 use Rattle.record_laws.proofs.ToldBackLaws.{group-known, text-is, told-said, told-value, told-string}
@@ -95,39 +91,11 @@ group-indexed t small g h =
 
 -- ---- the text of a value: not empty, no blank at its ends, no line feed
 
-record ValueFacts (v : List ℕ) : Type 0 where
-  some : 0 < length v
-  ends : trimEnd v ≡ v
-  whole : trim v ≡ v
-  line : lacks (is 10) v ≡ true
-
-of-lacks : (v : List ℕ) → 0 < length v → lacks isBlank v ≡ true → lacks (is 10) v ≡ true → ValueFacts v
-of-lacks v filled h line =
-    let ends = trimEnd-whole v h in
-    let front : blanks v ≡ 0 = rw append-nil at (blanks-append v [] filled h) in
-    record { some = filled; ends = ends; whole = trim-whole v front ends; line = line }
-
--- a text that is left whole has no blank at its end
-whole-ends : (v : List ℕ) → 0 < length v → trim v ≡ v → trimEnd v ≡ v
-unfolding trim part
-whole-ends v filled e =
-    elim (decLt 0 (blanks v)) [
-      | yes h ↦
-          let short : length (take (length (trim v)) (drop (blanks v) v)) ≡ length v = ap length (trim-part v ∙ e) in
-          absurd (omega (arith, short, length-take (length (trim v)) (drop (blanks v) v), length-drop (blanks v) v))
-      | no h ↦ let front : blanks v ≡ 0 = omega arith in rw front at e
-    ]
-
-of-string : (s : List ℕ) → ValueFacts (stringText s)
-of-string s =
-    let whole = text-whole s in
-    record { some = text-nonempty s; ends = whole-ends (stringText s) (text-nonempty s) whole; whole = whole; line = text-line s }
-
 -- a text that passes the tests
 goodText : List ℕ → Bool
 goodText w = ltb 0 (length w) && (same (trimEnd w) w && (same (trim w) w && lacks (is 10) w))
 
-of-test : (w : List ℕ) → goodText w ≡ true → ValueFacts w
+of-test : (w : List ℕ) → goodText w ≡ true → Whole w
 unfolding goodText
 of-test w e =
     let a = and-both (ltb 0 (length w)) _ e in
@@ -135,11 +103,11 @@ of-test w e =
     let c = and-both (same (trim w) w) _ (b .1) in
     record { some = ltb-true 0 (length w) (a .0); ends = same-equal (trimEnd w) w (b .0); whole = same-equal (trim w) w (c .0); line = c .1 }
 
-mode-facts : (n : ℕ) → n < wordCount modes → ValueFacts (wordAt modes n)
+mode-facts : (n : ℕ) → n < wordCount modes → Whole (wordAt modes n)
 unfolding of-text any first goodText
 mode-facts n h = of-test (wordAt modes n) (each-holds 2 (λ (k : ℕ). goodText (wordAt modes k)) refl n h)
 
-chap-facts : (n : ℕ) → n < wordCount chapTypes → ValueFacts (wordAt chapTypes n)
+chap-facts : (n : ℕ) → n < wordCount chapTypes → Whole (wordAt chapTypes n)
 unfolding of-text any first goodText
 chap-facts n h = of-test (wordAt chapTypes n) (each-holds 3 (λ (k : ℕ). goodText (wordAt chapTypes k)) refl n h)
 
@@ -150,76 +118,37 @@ goodFlags kind =
     || not (any (2 ^ wordCount ((groupOf kind) .flags)) (λ (v : ℕ). not (goodText (wordSetText ((groupOf kind) .flags) v))))
 
 flags-facts : (kind : ℕ) → kind < kindCount → goodList ((groupOf kind) .flags) ≡ true → (v : ℕ) → v < 2 ^ wordCount ((groupOf kind) .flags)
-    → ValueFacts (wordSetText ((groupOf kind) .flags) v)
+    → Whole (wordSetText ((groupOf kind) .flags) v)
 unfolding of-text any first goodText groupOf goodFlags
 flags-facts kind h good v l =
     let all = rw good at (each-holds kindCount goodFlags refl kind h) in
     of-test _ (each-holds (2 ^ wordCount ((groupOf kind) .flags)) (λ (v : ℕ). goodText (wordSetText ((groupOf kind) .flags) v)) (not-true _ all) v l)
 
--- bytes that are no digits are in no number
-module _ (p : ℕ → Bool) (other : any 16 (λ (d : ℕ). p (digitByte d)) ≡ false) where
-  abbrev Fails : ℕ → Type 0
-  Fails b = p b ≡ false
-
-  digit-fails : (d : ℕ) → d < 16 → Fails (digitByte d)
-  digit-fails = any-none 16 (λ (d : ℕ). p (digitByte d)) other
-
-  padded-lacks : (n : ℕ) → lacks p (padded 2 16 n) ≡ true
-  padded-lacks n = lacks-each p (padded 2 16 n) (padded-each 16 (omega arith) (omega arith) Fails digit-fails 2 n)
-
-  module _ (colon : p (code ":") ≡ false) where
-    pairs-lack : (f : ℕ → ℕ) (k n : ℕ) → lacks p (gather (λ (j : ℕ). colonPair (f j)) k n) ≡ true
-    unfolding gather each
-    pairs-lack f k zero = refl
-    pairs-lack f k (suc n) =
-        lacks-append p (colonPair (f k)) (gather (λ (j : ℕ). colonPair (f j)) (suc k) n) (rw colon (padded-lacks (f k))) (pairs-lack f (suc k) n)
-
-    mac-lacks : (m : List ℕ) → lacks p (macText m) ≡ true
-    unfolding macText pairsText
-    mac-lacks m = lacks-append p (padded 2 16 (byte m 0)) _ (padded-lacks (byte m 0)) (pairs-lack (λ (k : ℕ). byte m (k + 1)) 0 5)
-
-    pci-lacks : p (code ".") ≡ false → (w : ℕ) → lacks p (pciText w) ≡ true
-    unfolding pciText each
-    pci-lacks dot w =
-        lacks-append p (padded 2 16 (w / 256)) _ (padded-lacks (w / 256))
-        (rw colon (lacks-append p (padded 2 16 (w / 8 % 32)) _ (padded-lacks (w / 8 % 32)) (rw (dot, digit-fails (w % 8) (omega arith)))))
-
-mac-some : (m : List ℕ) → 0 < length (macText m)
-unfolding macText pairsText
-mac-some m = omega (arith, length-append (padded 2 16 (byte m 0)) (gather (λ (k : ℕ). colonPair (byte m (k + 1))) 0 5), padded-length 16 2 (byte m 0))
+-- a PCI address has the digits of its bytes, a colon and a dot
+pci-lacks : (p : ℕ → Bool) → any 16 (λ (d : ℕ). p (digitByte d)) ≡ false → p (code ":") ≡ false → p (code ".") ≡ false → (w : ℕ) → lacks p (pciText w) ≡ true
+unfolding pciText each
+pci-lacks p other colon dot w =
+    let last : p (digitByte (w % 8)) ≡ false = any-none 16 (λ (d : ℕ). p (digitByte d)) other (w % 8) (omega arith) in
+    lacks-append p (padded 2 16 (w / 256)) _ (pair-lacks p other (w / 256))
+    (rw colon (lacks-append p (padded 2 16 (w / 8 % 32)) _ (pair-lacks p other (w / 8 % 32)) (rw (dot, last))))
 
 pci-some : (w : ℕ) → 0 < length (pciText w)
 unfolding pciText
 pci-some w = omega (arith, length-append (padded 2 16 (w / 256)) (deviceText w), padded-length 16 2 (w / 256))
 
-blank-other : any 16 (λ (d : ℕ). isBlank (digitByte d)) ≡ false
-unfolding any first tabulate digitByte isBlank
-blank-other = refl
-
-feed-other : any 16 (λ (d : ℕ). is 10 (digitByte d)) ≡ false
-unfolding any first tabulate digitByte
-feed-other = refl
-
--- a number is left whole
-of-number : (n : ℕ) → ValueFacts (digits 10 n)
-of-number n = of-lacks (digits 10 n) (digits-some 10 (omega arith) n) (number-lacks isBlank blank-other n) (number-lacks (is 10) feed-other n)
-
 value-facts : (kind : ℕ) → kind < kindCount → (notation : Notation) (bytes : List ℕ) → Said ((groupOf kind) .flags) notation bytes
-    → ValueFacts (valueText ((groupOf kind) .flags) notation bytes)
-unfolding valueText isBlank
-value-facts kind h Oem bytes s = of-string (take (indexOf 0 bytes) bytes)
+    → Whole (valueText ((groupOf kind) .flags) notation bytes)
+unfolding valueText macText isBlank
+value-facts kind h Oem bytes s = string-whole (take (indexOf 0 bytes) bytes)
 value-facts kind h Mode bytes s = mode-facts (byte bytes 0) s
 value-facts kind h Flags bytes s = flags-facts kind h (s .0) (byte bytes 0) (s .1)
-value-facts kind h Number bytes s = of-number (word64 bytes 0)
-value-facts kind h Port bytes s = of-number (word64 bytes 0)
-value-facts kind h Address bytes s =
-    let a = bytesAt bytes 0 16 in
-    of-lacks (addressText a) (text-some a) (text-lacks a isBlank blank-other refl refl) (text-lacks a (is 10) feed-other refl refl)
-value-facts kind h Mac bytes s =
-    of-lacks (macText bytes) (mac-some bytes) (mac-lacks isBlank blank-other refl bytes) (mac-lacks (is 10) feed-other refl bytes)
+value-facts kind h Number bytes s = number-whole (word64 bytes 0)
+value-facts kind h Port bytes s = number-whole (word64 bytes 0)
+value-facts kind h Address bytes s = address-whole (bytesAt bytes 0 16)
+value-facts kind h Mac bytes s = pairs-whole 6 bytes
 value-facts kind h Pci bytes s =
     let w = word16 bytes 0 in
-    of-lacks (pciText w) (pci-some w) (pci-lacks isBlank blank-other refl refl w) (pci-lacks (is 10) feed-other refl refl w)
+    whole-lacks (pciText w) (pci-some w) (pci-lacks isBlank blank-other refl refl w) (pci-lacks (is 10) feed-other refl refl w)
 value-facts kind h Chap bytes s = chap-facts (byte bytes 0) s
 value-facts kind h Text bytes s = absurd s
 
@@ -249,11 +178,11 @@ module _ (t : List ℕ) (ok : checkOf t ≡ Accepted) (small : Bytes t) (g n : �
   name : NameFacts kind index n
   name = name-facts kind index n (group-known g) (group-indexed t small g group) number
 
-  value : ValueFacts text
+  value : Whole text
   value = go (isText ((fieldOf kind n) .notation)) refl
     where
-      go : (b : Bool) → isText ((fieldOf kind n) .notation) ≡ b → ValueFacts text
-      go true e = rw (text-is ((groupOf kind) .flags) ((fieldOf kind n) .notation) bytes e) (of-string bytes)
+      go : (b : Bool) → isText ((fieldOf kind n) .notation) ≡ b → Whole text
+      go true e = rw (text-is ((groupOf kind) .flags) ((fieldOf kind n) .notation) bytes e) (string-whole bytes)
       go false e = value-facts kind (group-known g) ((fieldOf kind n) .notation) bytes (told-said t ok small g n group number bytes told e)
 
   -- the line as it is told

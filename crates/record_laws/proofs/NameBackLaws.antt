@@ -1,6 +1,5 @@
 -- The name of a field names that field: the group's name ends before the first dot, the kind's before the first digit, and the digits of an
 -- Index are read back.
---     number-lacks            the digits of a number are nothing else
 --     named-split             a name is taken apart at its dot
 --     group-found             and a group's name where its digits start
 --     name-facts              the name of a field: it names the field, and a line may start with it
@@ -19,7 +18,7 @@ use lib.Seq.{take-all, take-at, drop-at}
 use lib.Dec.{eqb, ltb}
 use Rattle.octets.specs.Counting.{first, any, tabulate}
 use Rattle.octets.specs.Octets.{byte}
-use Rattle.octets.proofs.CountingLaws.{clash, any-none, each-holds}
+use Rattle.octets.proofs.CountingLaws.{clash, each-holds}
 use Rattle.octets.proofs.TestLaws.{and-both}
 use Rattle.text.specs.Split.{isBlank, is, before, each, lacks}
 use Rattle.text.specs.Words.{wordsOf, wordAt, wordCount, distinct}
@@ -27,20 +26,15 @@ use Rattle.text.specs.Computing.{computing as of-text}
 use Rattle.text.proofs.SplitLaws.{same-refl, before-append}
 use Rattle.text.proofs.WordSetLaws.{number-at}
 use Rattle.notation.specs.Number.{digitByte, digits}
-use Rattle.notation.proofs.PieceLaws.{lacks-append, lacks-each, lacks-front}
-use Rattle.notation.proofs.NumberLaws.{digits-made, digits-each, numberUpTo-digits}
+use Rattle.notation.proofs.PieceLaws.{lacks-append, lacks-front}
+use Rattle.notation.proofs.NumberLaws.{digits-made, numberUpTo-digits}
+use Rattle.notation.proofs.LineLaws.{number-lacks}
 use Rattle.record_text.specs.Fields.{firstIndexed, kindCount, groupNames, groupOf, fieldCount, indexText, dotted, nameOf, indexIn, isDigit, found, foundIn, fieldNamed}
 use Rattle.record_text.specs.Computing.{computing}
 use Rattle.record_text.specs.declared.fields.Found.the-variants.{Named}
 use Rattle.record_text.proofs.ValueLaws.{each-at}
 
 -- ---- digits
-
--- bytes that are no digits are in no number
-pub number-lacks : (p : ℕ → Bool) → any 16 (λ (d : ℕ). p (digitByte d)) ≡ false → (n : ℕ) → lacks p (digits 10 n) ≡ true
-number-lacks p other n =
-    lacks-each p (digits 10 n)
-    (digits-each 10 (omega arith) (omega arith) (λ (b : ℕ). p b ≡ false) (any-none 16 (λ (d : ℕ). p (digitByte d)) other) n)
 
 digit-first : (n : ℕ) → isDigit (byte (digits 10 n) 0) ≡ true
 unfolding isDigit digitByte any first tabulate
