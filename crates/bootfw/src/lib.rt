@@ -3,7 +3,6 @@ use scan::Family;
 use table_header::verdict::Verdict;
 use table_header::verdict::refusal_of;
 use table_header::write::Written;
-ghost use mathlib.Core.Path.{_≡_};
 ghost use Prim.Native.Nat.{_<_, _^_};
 ghost use lib.ListN.{length};
 ghost use Rattle.scan.specs.Scan.{ibft, abft, sbft};

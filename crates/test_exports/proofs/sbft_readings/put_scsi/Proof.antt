@@ -1,7 +1,5 @@
--- `put_scsi` meets its contract: each value is written right behind the one before. Assumes nothing.
-use mathlib.Core.Path.{refl}
+-- `put_scsi` meets its contract: the LUN is all that is written. Assumes nothing.
 use Rattle.test_exports.specs.Laid.{laidScsi}
-use Rattle.test_exports.proofs.PutsLaws.{behind}
 use borrow.Author.Needs.{needs}
 use Rattle.test_exports.proofs.sbft_readings.put_scsi.Statement.{statement}
 use Rattle.test_exports.proofs.sbft_readings.put_scsi.Tie as tie

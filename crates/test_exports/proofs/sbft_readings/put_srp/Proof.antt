@@ -1,7 +1,5 @@
--- `put_srp` meets its contract: each value is written right behind the one before. Assumes nothing.
-use mathlib.Core.Path.{refl}
+-- `put_srp` meets its contract: the two ports are one call. Assumes nothing.
 use Rattle.test_exports.specs.Laid.{laidSrp}
-use Rattle.test_exports.proofs.PutsLaws.{behind}
 use borrow.Author.Needs.{needs}
 use Rattle.test_exports.proofs.sbft_readings.put_srp.Statement.{statement}
 use Rattle.test_exports.proofs.sbft_readings.put_srp.Tie as tie

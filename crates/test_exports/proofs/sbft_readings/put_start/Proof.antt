@@ -1,5 +1,4 @@
 -- `put_start` meets its contract: each value is written right behind the one before. Assumes nothing.
-use mathlib.Core.Path.{refl}
 use Rattle.test_exports.specs.Laid.{laidStart}
 use Rattle.test_exports.proofs.PutsLaws.{behind}
 use borrow.Author.Needs.{needs}
