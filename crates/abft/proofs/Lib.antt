@@ -1,2 +1,3 @@
 pub mod AbftLaws
 pub mod PlaceLaws
+pub mod ReadingLaws

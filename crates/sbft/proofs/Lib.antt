@@ -3,3 +3,4 @@ pub mod ReadingLaws
 pub mod PutLaws
 pub mod SbftLaws
 pub mod PlaceLaws
+pub mod RecordLaws

@@ -2,17 +2,21 @@
 -- does, of the family `sbft`.)
 use mathlib.Core.Path.{_≡_}
 use mathlib.Core.List.{List, []}
+use mathlib.Core.Option.{Option, none, some}
 use Prim.Native.Nat.{ℕ, _≤_, _<_}
 use lib.ListN.{length}
 use denote.Ref.{RefT, now}
 use Rattle.octets.specs.View.{Shows}
 use Rattle.table_header.specs.Verdict.{refusalOf}
+use Rattle.table_header.specs.declared.verdict.Verdict.the-variants.{Accepted}
 use Rattle.table_header.specs.Promises.{Judges, Writes}
 use Rattle.table_header.specs.declared.verdict.Verdict.{Verdict}
 use Rattle.table_header.specs.declared.write.Written.{Written}
 use Rattle.sbft.specs.Check.{checkTests, checkOf}
 use Rattle.sbft.specs.Layout.{partCount, partOf, offsetOf}
-use Rattle.sbft.specs.Readings.{recordOf, partVerdict, partViewOf}
+use Rattle.sbft.specs.Readings.{recordOf, ibIn, startOf, scsiOf, srpOf, ibOf, partVerdict, partViewOf}
+use Rattle.sbft.specs.declared.reading.Ib.{Ib}
+use Rattle.sbft.specs.declared.reading.IbReading.{IbReading}
 use Rattle.sbft.specs.Write.{recordGiven, writtenOf, roomAfter}
 
 -- the verdict is that of the first test that fails
@@ -38,3 +42,19 @@ pub record PartView (lent : RefT (List ℕ)) (k : ℕ) (view : RefT (List ℕ)) 
 abbrev pub Write : List ℕ → List ℕ → Written → List ℕ → Type 0
 Write image before answer after =
     Writes checkOf recordOf (recordGiven image) (writtenOf image (length before)) (roomAfter image before) before answer after
+
+-- the reading of an IB part: its fields, or 22 where it is absent
+abbrev pub ibRead : Option Ib → IbReading
+ibRead none = record { refusal = record { number = 22; place = 0 }; fields = ibIn [] }
+ibRead (some fields) = record { refusal = refusalOf Accepted; fields = fields }
+
+-- each reading of the table gives its part of what the table means
+pub record Reads (t : List ℕ) : Type 0 where
+  pub start : startOf t ≡ record { refusal = refusalOf Accepted; fields = (recordOf t) .start }
+  pub scsi : scsiOf t ≡ record { refusal = refusalOf Accepted; fields = (recordOf t) .scsi }
+  pub srp : srpOf t ≡ record { refusal = refusalOf Accepted; fields = (recordOf t) .srp }
+  pub ib : ibOf t ≡ ibRead ((recordOf t) .ib)
+
+-- of every table that the check accepts, so of every one that was written
+abbrev pub ReadsRecord : Type 0
+ReadsRecord = (t : List ℕ) → checkOf t ≡ Accepted → Reads t
