@@ -31,8 +31,8 @@
 /* The version of what this header declares, for #if. MINOR rises where something
  * is added; MAJOR where a program that was written for an earlier version may
  * have to be changed, and MINOR is 0 then. */
-#define BOOTFW_VERSION_MAJOR 1
-#define BOOTFW_VERSION_MINOR 4
+#define BOOTFW_VERSION_MAJOR 2
+#define BOOTFW_VERSION_MINOR 0
 #define BOOTFW_VERSION (BOOTFW_VERSION_MAJOR * 0x10000 + BOOTFW_VERSION_MINOR)
 
 /* A layout that differs from the published one must not compile. The array of
@@ -615,8 +615,8 @@ static inline const char *ibft_refusal_text(unsigned number)
     }
 }
 
-/* The parts of an answer: bits 0-7, 8-31 and 32-63. Of every call: an enum
- * ibft_refusal. */
+/* The parts of an answer: bits 0-7, 8-31 and 32-63, the last either a Length or a
+ * checksum byte. Of every call: an enum ibft_refusal. */
 static inline uint8_t ibft_answer_number(uint64_t answer)
 {
     return (uint8_t)(answer & 0xFFu);
@@ -640,7 +640,16 @@ static inline uint32_t ibft_answer_place(uint64_t answer)
  * refused. */
 static inline uint32_t ibft_answer_length(uint64_t answer)
 {
-    return (uint32_t)(answer >> 32);
+    return ibft_answer_number(answer) == IBFT_ACCEPTED ? (uint32_t)(answer >> 32) : 0u;
+}
+
+/* Of a check or a rebuild that refuses with IBFT_REFUSED_SUM: the byte with which, at
+ * offset 9, the table would sum to 0 modulo 256; it may be 0. Of every other answer 0.
+ * It is for a report: a wrong sum means that some byte was changed, and setting
+ * this one does not bring that byte back. */
+static inline uint8_t ibft_answer_checksum(uint64_t answer)
+{
+    return ibft_answer_number(answer) == IBFT_REFUSED_SUM ? (uint8_t)((answer >> 32) & 0xFFu) : 0u;
 }
 
 /* ---- Calls ----------------------------------------------------------------- */
@@ -663,7 +672,8 @@ uint64_t ibft_scan(const uint8_t *memory, size_t memory_size, uint64_t address) 
 
 /* Checks the table that starts with the first of the lent bytes; more may be
  * lent than its Length. Answers 0 with place 0; or the first of 3 to 19, 33 and 34
- * that applies, with its place. Bits 32-63 are 0. Writes nothing. */
+ * that applies, with its place, and with 6 the checksum byte that would be right in
+ * bits 32-39. All other bits from 32 on are 0. Writes nothing. */
 uint64_t ibft_check(const uint8_t *table, size_t table_size) BOOTFW_CALL;
 
 /* Builds the shortest table of a record into the room. The record is one struct
@@ -684,8 +694,9 @@ uint64_t ibft_build(const uint8_t *record, size_t record_size,
  * in another order or secrets that share bytes with other strings; room of
  * IBFT_LARGEST_LENGTH_WITH_EXTRAS is always enough. Answers 0 with place 0 and the new
  * table's Length, and the room past that keeps its bytes; or the first refusal of a
- * check, with its place; or 20 with the number of the first string that holds a zero
- * byte; or 21. When refused, Length is 0 and nothing is written. */
+ * check, with its place, and with 6 the checksum byte as a check has it; or 20 with the
+ * number of the first string that holds a zero byte; or 21. When refused, Length is 0
+ * and nothing is written. */
 uint64_t ibft_rebuild(const uint8_t *table, size_t table_size,
                       uint8_t *room, size_t room_size) BOOTFW_CALL;
 
@@ -700,7 +711,7 @@ uint64_t sbft_scan(const uint8_t *memory, size_t memory_size, uint64_t address) 
  * refusal that applies, with its place: 3 to 8, then 30 for the lowest reserved byte
  * that is not zero; of an sBFT then 31 and 32 for the first such part, of SCSI, SRP and
  * IB, at its offset word, then 30 for the reserved bytes of the IB part, at a place of
- * up to 65,582. Bits 32-63 are 0. Write nothing. */
+ * up to 65,582. Bits 32-63 are as ibft_check has them. Write nothing. */
 uint64_t abft_check(const uint8_t *table, size_t table_size) BOOTFW_CALL;
 uint64_t sbft_check(const uint8_t *table, size_t table_size) BOOTFW_CALL;
 

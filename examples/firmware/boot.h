@@ -13,8 +13,8 @@
 #include <stddef.h>
 #include <stdint.h>
 
-#if BOOTFW_VERSION_MAJOR != 1 || BOOTFW_VERSION < 0x10001
-#error "this example is written for version 1 of bootfw.h, from 1.1 on"
+#if BOOTFW_VERSION_MAJOR != 2
+#error "this example is written for version 2 of bootfw.h"
 #endif
 
 enum boot_status {

@@ -156,6 +156,13 @@ pub fn print_growth(what: &str, rows: &[(usize, usize, f64)]) {
     }
 }
 
+/// The table with another checksum byte: the check refuses it with the byte that stood there.
+pub fn with_wrong_sum(table: &[u8]) -> Vec<u8> {
+    let mut wrong = table.to_vec();
+    wrong[9] ^= 1;
+    wrong
+}
+
 /// 512 KiB without a signature.
 fn nothing_there() -> Vec<u8> {
     let mut memory = Seeded::new(1).bytes(WINDOW_SIZE);
@@ -199,6 +206,9 @@ fn main() {
     for (which, table) in [("common", common_table()), ("largest", largest_table())] {
         let what = format!("check of the {} table, {} bytes", which, table.length());
         measure(&what, 1_000, 300, |c| check_by(c, &table.bytes));
+        let wrong = with_wrong_sum(&table.bytes);
+        let what = format!("{}, a wrong sum", what);
+        measure(&what, 1_000, 300, |c| check_by(c, &wrong));
     }
 
     measure_checks_with_extras();

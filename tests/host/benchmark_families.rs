@@ -2,8 +2,8 @@
 //! whose parts stand as far up as can be.
 
 use crate::library::{self, Check, Write};
-use crate::measure;
 use crate::twin_families::{rust_abft_check, rust_abft_write, rust_sbft_check, rust_sbft_write};
+use crate::{measure, with_wrong_sum};
 
 extern "C" {
     fn c_abft_check(table: *const u8, table_size: usize) -> u64;
@@ -89,6 +89,18 @@ pub fn measure_families() {
     let sbft = table(rust_sbft_write, &sbft_image);
     measure_check("an aBFT", &ABFT_CHECKS, 2_000, &abft);
     measure_check("an sBFT", &SBFT_CHECKS, 2_000, &sbft);
+    measure_check(
+        "an aBFT with a wrong sum",
+        &ABFT_CHECKS,
+        2_000,
+        &with_wrong_sum(&abft),
+    );
+    measure_check(
+        "an sBFT with a wrong sum",
+        &SBFT_CHECKS,
+        2_000,
+        &with_wrong_sum(&sbft),
+    );
     measure_check(
         "an sBFT with its IB part far up",
         &SBFT_CHECKS,

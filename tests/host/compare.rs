@@ -1,10 +1,10 @@
-//! Compares what the static libraries and the programs `show`, `tell`, `enter` and `find` answer with
-//! independent readings of RULES.md and docs/RECORD-FORMAT.md, on seeded inputs. Prints how often
-//! each answer was met; exits 1 at the first difference.
+//! Compares what the static libraries and the programs `show`, `tell`, `enter`, `find` and `rebuild`
+//! answer with independent readings of RULES.md and docs/RECORD-FORMAT.md, on seeded inputs. Prints
+//! how often each answer was met; exits 1 at the first difference.
 //!
 //! The readings are the files model_*.rs, written from the documents alone; a call that is exported
 //! later gets its reading and its comparison beside these. The environment variables SHOW, TELL,
-//! ENTER and FIND name the programs.
+//! ENTER, FIND and REBUILD name the programs.
 
 mod build_causes;
 mod build_refusals;
@@ -24,6 +24,8 @@ mod compare_readings;
 mod compare_rebuild;
 mod compare_scan;
 mod compare_show;
+mod compare_sum;
+mod compare_sum_programs;
 mod compare_tail;
 mod compare_text;
 mod compare_views;
@@ -38,6 +40,7 @@ mod good_tables;
 mod known_builds;
 mod known_extras;
 mod known_rebuilds;
+mod known_sums;
 mod known_texts;
 mod known_values;
 mod lent_build;
@@ -106,6 +109,8 @@ fn main() {
         && compare_family_scans::compare()
         && compare_families::compare()
         && compare_family_writes::compare()
+        && compare_sum::compare()
+        && compare_sum_programs::compare()
         && compare_family_text::compare();
     if !all_agree {
         std::process::exit(1);

@@ -6,7 +6,7 @@ use crate::build_sights::BuildSights;
 use crate::known_builds::known_records_agree;
 use crate::lent_build::LentBuild;
 use crate::library::{self, NumberedReading};
-use crate::model_answer::{number, packed};
+use crate::model_answer::{in_words, number, packed_table};
 use crate::model_build::build;
 use crate::model_check::Refusal;
 use crate::model_layout::*;
@@ -22,24 +22,6 @@ const LEAST_WITH_EXTRAS: usize = 200_000;
 
 /// A reading's bytes.
 const OUT_SIZE: usize = 128;
-
-/// What a build answers.
-pub fn packed_build(built: &Result<Vec<u8>, Refusal>) -> u64 {
-    match built {
-        Ok(table) => packed(0, 0, table.len() as u64),
-        Err(refusal) => packed(refusal.number, refusal.place, 0),
-    }
-}
-
-pub fn in_words(answer: u64) -> String {
-    format!(
-        "{:#x} (number {}, place {}, Length {})",
-        answer,
-        number(answer),
-        (answer >> 8) % (1 << 24),
-        answer >> 32
-    )
-}
 
 fn in_hex(bytes: &[u8]) -> String {
     let shown = &bytes[..bytes.len().min(14_000)];
@@ -197,8 +179,8 @@ fn compare_one(input: &mut BuildInput, counts: &mut Counts) -> bool {
     counts.with_extras += usize::from(lent.record().len() >= EXTRAS);
     let expected = build(lent.record(), lent.strings(), room_size);
     let answer = lent.built_by(library::ibft_build);
-    if answer != packed_build(&expected) {
-        let document = in_words(packed_build(&expected));
+    if answer != packed_table(&expected) {
+        let document = in_words(packed_table(&expected));
         let what = format!("\n  library  {}\n  document {}", in_words(answer), document);
         report(input, &what);
         return false;

@@ -2,8 +2,8 @@
 
 use crate::known_extras::known_extras_agree;
 use crate::library;
-use crate::model_answer::{number, packed};
-use crate::model_check::{check, Verdict};
+use crate::model_answer::{in_words, packed_verdict};
+use crate::model_check::check;
 use crate::model_layout::{extra_words, CONTROL_END};
 use crate::refusals::Refusals;
 use crate::table_maker::*;
@@ -17,23 +17,6 @@ const LEAST_WITH_WORDS: usize = 200_000;
 
 /// A Length that needs all four bytes of its field.
 const OVER_16_MIB: usize = 0x0100_0042;
-
-/// A verdict as C gets it.
-pub fn packed_verdict(verdict: &Verdict) -> u64 {
-    match verdict {
-        Ok(()) => packed(0, 0, 0),
-        Err(refusal) => packed(refusal.number, refusal.place, 0),
-    }
-}
-
-fn in_words(answer: u64) -> String {
-    format!(
-        "{:#x} (number {}, place {})",
-        answer,
-        number(answer),
-        answer >> 8
-    )
-}
 
 /// Prints how to make an input again, and the two answers.
 pub fn report(call: &str, input: &Input, answer: &str, expected: &str) {

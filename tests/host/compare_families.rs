@@ -7,7 +7,7 @@ use crate::family_refusals::*;
 use crate::lent_table::LentTable;
 use crate::library::{self, Reading};
 use crate::model_abft as abft;
-use crate::model_answer::{in_words, packed};
+use crate::model_answer::{in_words, packed_verdict};
 use crate::model_check::{Refusal, Verdict};
 use crate::model_sbft::{self as sbft, IB, PARTS};
 use crate::samples::{ABFT_SAMPLE, SBFT_SAMPLE};
@@ -78,10 +78,10 @@ const SBFT_SHAPES: &[Shape] = &[
     ("aBFTs", 500, |_, seeded| good_abft(seeded)),
 ];
 
-type Make = fn(&mut Seeded) -> Table;
+pub type Make = fn(&mut Seeded) -> Table;
 
 /// A good table of which so many bytes are lent.
-fn cut(size: usize, mut table: Table) -> Table {
+pub fn cut(size: usize, mut table: Table) -> Table {
     table.bytes.resize(size.max(table.bytes.len()), 0);
     table.lent = size;
     table
@@ -94,7 +94,7 @@ fn with_byte(n: usize, mut table: Table) -> Table {
 }
 
 /// Up to `most` faults.
-fn damaged(seeded: &mut Seeded, make: Make, damages: &[Damage], most: usize) -> Table {
+pub fn damaged(seeded: &mut Seeded, make: Make, damages: &[Damage], most: usize) -> Table {
     let mut table = make(seeded);
     for _ in 0..seeded.between(1, most) {
         let damage = seeded.one_of(damages);
@@ -104,7 +104,7 @@ fn damaged(seeded: &mut Seeded, make: Make, damages: &[Damage], most: usize) -> 
 }
 
 /// A good table or one with a fault, whose checksum byte is another.
-fn sum_wrong(seeded: &mut Seeded, make: Make, damages: &[Damage]) -> Table {
+pub fn sum_wrong(seeded: &mut Seeded, make: Make, damages: &[Damage]) -> Table {
     let mut table = make(seeded);
     if seeded.once_in(2) {
         table = damaged(seeded, make, damages, 2);
@@ -144,14 +144,6 @@ fn each_offset(n: usize, seeded: &mut Seeded) -> Table {
 
 /// What was asked, the answer and the document's.
 struct Difference(&'static str, String, String);
-
-/// A packed refusal, or 0.
-fn packed_verdict(verdict: &Verdict) -> u64 {
-    match verdict {
-        Ok(()) => 0,
-        Err(refusal) => packed(refusal.number, refusal.place, 0),
-    }
-}
 
 fn expect(call: &'static str, answer: u64, expected: u64) -> Result<(), Difference> {
     match answer == expected {
@@ -270,7 +262,7 @@ struct Subject {
     name: &'static str,
     shapes: &'static [Shape],
     compare: fn(&mut LentTable) -> Result<Vec<Refusal>, Difference>,
-    refusals: fn() -> Vec<Refusal>,
+    refusals: fn() -> Vec<NumberAndPlace>,
     pairs: &'static [&'static [(&'static str, &'static str)]],
 }
 

@@ -2,24 +2,26 @@
 //! other two families, and of all three together. The environment variables ENTER, TELL, SHOW and FIND name the
 //! programs; each input is a run.
 
+use crate::compare_families::{self as families, Make};
 use crate::family_damage::{ABFT_DAMAGES, SBFT_DAMAGES};
 use crate::family_maker::{good_abft, good_sbft, written_sbft};
 use crate::family_texts::*;
 use crate::model_abft as abft;
-use crate::model_enter_tell::{refused_line, Entered};
+use crate::model_enter_tell::Entered;
 use crate::model_family_text::*;
 use crate::model_sbft as sbft;
 use crate::model_scan::{ABFT, IBFT, SBFT};
 use crate::running::{fed, program, run, run_with, Fed};
 use crate::samples::{Sample, ABFT_SAMPLE, SAMPLES, SBFT_SAMPLE};
 use crate::seeded::Seeded;
+use crate::table_damage::Damage;
 use crate::table_maker::Table;
 use crate::tally::Tally;
 use std::collections::BTreeMap;
 use std::ffi::OsString;
 use std::process::Output;
 
-const LEAST_TABLES: usize = 900;
+const LEAST_TABLES: usize = 1_100;
 const LEAST_TEXTS: usize = 2_500;
 const LEAST_DUMPS: usize = 200;
 
@@ -69,7 +71,7 @@ fn enters(programs: &Programs, input: &Fed, expected: &Entered) -> bool {
     let (table, said) = match expected {
         Entered::Table(table) => (table.clone(), String::new()),
         Entered::Unread(message) => (Vec::new(), format!("{}\n", message)),
-        Entered::Refused(refusal, words) => (Vec::new(), format!("{}\n{}\n", refused_line(refusal), words)),
+        Entered::Refused(refusal, words) => (Vec::new(), format!("{}\n{}\n", refusal.line(), words)),
     };
     let output = run(&programs.enter, input);
     match &output {
@@ -95,15 +97,19 @@ fn sample_agrees(programs: &Programs, sample: &Sample) -> bool {
 
 // ---- Tables ----
 
+/// How a table of one of the two families is made, and its faults.
+fn either(seeded: &mut Seeded) -> (Make, &'static [Damage]) {
+    seeded.one_of(&[(good_abft as Make, ABFT_DAMAGES), (good_sbft, SBFT_DAMAGES)])
+}
+
 fn damaged(seeded: &mut Seeded) -> Table {
-    let (make, damages): (fn(&mut Seeded) -> Table, _) = seeded.one_of(&[
-        (good_abft as fn(&mut Seeded) -> Table, ABFT_DAMAGES),
-        (good_sbft, SBFT_DAMAGES),
-    ]);
-    let mut table = make(seeded);
-    let damage = seeded.one_of(damages);
-    damage(seeded, &mut table);
-    table.mended()
+    let (make, damages) = either(seeded);
+    families::damaged(seeded, make, damages, 1)
+}
+
+fn sum_wrong(seeded: &mut Seeded) -> Table {
+    let (make, damages) = either(seeded);
+    families::sum_wrong(seeded, make, damages)
 }
 
 type TableShape = (&'static str, usize, fn(&mut Seeded) -> Table);
@@ -113,6 +119,7 @@ const TABLES: &[TableShape] = &[
     ("sBFTs", 250, good_sbft),
     ("sBFTs as they are written", 150, written_sbft),
     ("with a fault", 300, damaged),
+    ("with a wrong sum", 200, sum_wrong),
 ];
 
 /// A table is shown and told; told with secrets hidden it is the same, as it has none; what is told of one that
@@ -177,7 +184,7 @@ fn said(entered: &Entered) -> String {
     match entered {
         Entered::Table(table) => family_of_table(table).name.to_string(),
         Entered::Unread(message) => message.splitn(3, ": ").last().unwrap().to_string(),
-        Entered::Refused(refusal, _) => refused_line(refusal),
+        Entered::Refused(refusal, _) => refusal.line(),
     }
 }
 

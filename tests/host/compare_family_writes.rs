@@ -7,7 +7,7 @@ use crate::lent_room::LentRoom;
 use crate::lent_table::LentTable;
 use crate::library::{self, Check, Write};
 use crate::model_abft as abft;
-use crate::model_answer::{in_words, packed};
+use crate::model_answer::{in_words, packed_table};
 use crate::model_check::Refusal;
 use crate::model_layout::{OEM_ID, OEM_TABLE_ID};
 use crate::model_sbft::{self as sbft, IB};
@@ -128,10 +128,7 @@ type Compared = Result<bool, String>;
 /// Whether the write was accepted.
 fn compare_one(subject: &Subject, image: &mut LentTable, room: &mut LentRoom) -> Compared {
     let document = (subject.document)(image.bytes(), room.size());
-    let expected = match &document {
-        Ok(table) => packed(0, 0, table.len() as u64),
-        Err(refusal) => packed(refusal.number, refusal.place, 0),
-    };
+    let expected = packed_table(&document);
     let (first, size) = image.lend();
     let (room_first, room_size) = room.lend();
     let answer = unsafe { (subject.write)(first, size, room_first, room_size) };

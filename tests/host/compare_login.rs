@@ -1,7 +1,9 @@
 //! The login order as compiled (`test_login_order`), held to model_login.rs.
 
-use crate::compare_check::{packed_verdict, report};
+use crate::compare_check::report;
+use crate::compare_readings::checksum_of;
 use crate::library;
+use crate::model_answer::{number_and_place, packed_verdict};
 use crate::model_login::{login_order, places};
 use crate::table_shapes::{all_agree, Input};
 use crate::tally::Tally;
@@ -29,21 +31,23 @@ fn column(order: &[u64]) -> usize {
 
 fn compare_one(input: &mut Input, tally: &mut Tally, with_255: &mut usize) -> bool {
     let expected = login_order(input.table.bytes());
-    let (refusal, order) = match &expected {
-        Ok(order) => (0, order.as_slice()),
-        Err(refusal) => (packed_verdict(&Err(*refusal)), &[][..]),
-    };
+    let refusal = number_and_place(packed_verdict(&expected));
+    let checksum = checksum_of(&expected);
+    let order = expected.as_deref().unwrap_or_default();
     let places = places(order);
     let packed = refusal | (order.len() as u64) << 32 | places[0] << 40 | places[1] << 48;
     let all_places = places.iter().rev().fold(0, |all, place| all << 8 | place);
     let (table, size) = input.table.lend();
     let answer = unsafe { library::test_login_order(table, size) };
     let places_given = unsafe { library::test_login_places(table, size) };
-    let agrees = answer == packed && places_given == all_places;
-    if !agrees || !input.table.is_unchanged() {
-        let given = format!("{:#x}, places {:#018x}", answer, places_given);
-        let expected = format!("{:#x}, places {:#018x}", packed, all_places);
-        report("login order", input, &given, &expected);
+    let checksum_given = unsafe { library::test_login_checksum(table, size) };
+    let given = (answer, places_given, checksum_given);
+    let expected_all = (packed, all_places, checksum);
+    if given != expected_all || !input.table.is_unchanged() {
+        let in_words = |(answer, places, checksum): (u64, u64, u8)| {
+            format!("{:#x}, places {:#018x}, checksum {}", answer, places, checksum)
+        };
+        report("login order", input, &in_words(given), &in_words(expected_all));
         return false;
     }
     if order.contains(&255) {

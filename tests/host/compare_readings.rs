@@ -1,10 +1,10 @@
 //! The readings as compiled (`test_header` to `test_entry_place`), held to model_readings.rs: every
 //! slot and every entry of every table, and numbers past them.
 
-use crate::compare_check::{packed_verdict, report};
+use crate::compare_check::report;
 use crate::good_tables::{table_with_extras, table_with_structures};
 use crate::library::{self, Index, NumberedReading, Reading};
-use crate::model_answer::number;
+use crate::model_answer::{number, number_and_place, packed_verdict};
 use crate::model_check::Refusal;
 use crate::model_layout::*;
 use crate::model_readings::{self as model, *};
@@ -165,12 +165,9 @@ impl Counts {
     }
 }
 
-/// The answer's number and place; 0 and 0 where something was read.
-fn packed_result<T>(result: &Result<T, Refusal>) -> u64 {
-    match result {
-        Ok(_) => 0,
-        Err(refusal) => packed_verdict(&Err(*refusal)),
-    }
+/// The checksum byte that comes with an answer: of a table whose sum is wrong the one that would be right.
+pub fn checksum_of<T>(result: &Result<T, Refusal>) -> u8 {
+    result.as_ref().err().map_or(0, |refusal| refusal.checksum)
 }
 
 /// Says whether two answers to a numbered call are the same; prints where they are not.
@@ -188,7 +185,7 @@ fn same(call: &str, n: u8, input: &Input, answer: u64, expected: u64) -> bool {
 }
 
 /// What a reading of the accepted table gives; the check's refusal for any other.
-fn read<T>(
+pub fn read<T>(
     table: &Result<Accepted<'_>, Refusal>,
     reading: impl Fn(&Accepted<'_>) -> Result<T, Refusal>,
 ) -> Result<T, Refusal> {
@@ -207,8 +204,10 @@ fn compare_structure(
     let (table, size) = input.table.lend();
     let answer = unsafe { library::test_structure(table, size, slot) };
     let index_given = unsafe { library::test_structure_index(table, size, slot) };
+    let checksum_given = unsafe { library::test_structure_checksum(table, size, slot) };
     counts.count("structure", answer);
-    let refusal = packed_result(&expected);
+    let refusal = number_and_place(packed_verdict(&expected));
+    let checksum = checksum_of(&expected).into();
     let Structure {
         id,
         index,
@@ -216,8 +215,10 @@ fn compare_structure(
         flags,
     } = expected.unwrap_or_default();
     let expected = refusal | id << 32 | start << 40 | flags << 56;
+    let given = checksum_given.into();
     same("structure", slot, input, answer, expected)
         && same("structure's Index", slot, input, index_given.into(), index)
+        && same("structure's checksum", slot, input, given, checksum)
 }
 
 fn compare_entry(
@@ -230,7 +231,7 @@ fn compare_entry(
     let answer = unsafe { library::test_entry(table, size, entry) };
     let place_given = unsafe { library::test_entry_place(table, size, entry) };
     counts.count("entry", answer);
-    let refusal = packed_result(&expected);
+    let refusal = packed_verdict(&expected);
     let place = expected.unwrap_or_default();
     same("entry", entry, input, answer, refusal)
         && same(
@@ -255,7 +256,7 @@ fn compare_fields<T: LaidOut>(
     let (table, size) = input.table.lend();
     let answer = read(table, size, out[GUARD..].as_mut_ptr(), OUT_SIZE);
     counts.count(call, answer);
-    let refusal = packed_result(&expected);
+    let refusal = packed_verdict(&expected);
     let fields = match expected {
         Ok(fields) => fields.laid_out(),
         Err(_) => vec![0; T::SIZE],

@@ -3,12 +3,11 @@
 //! and `ibft_build` of the old table's record range has to give the same.
 
 use crate::build_sights::LARGEST_LENGTH;
-use crate::compare_build::in_words;
 use crate::compare_check::report;
 use crate::known_rebuilds::known_tables_agree;
 use crate::lent_room::LentRoom;
 use crate::library;
-use crate::model_answer::packed;
+use crate::model_answer::{in_words, packed, packed_table};
 use crate::model_check::Refusal;
 use crate::model_layout::*;
 use crate::model_rebuild::{rebuilt, Rebuilt};
@@ -40,14 +39,6 @@ struct Counts {
     rebuilt: usize,
 }
 
-/// What a rebuild answers.
-pub fn packed_rebuild(rebuilt: &Result<&[u8], Refusal>) -> u64 {
-    match rebuilt {
-        Ok(table) => packed(0, 0, table.len() as u64),
-        Err(refusal) => packed(refusal.number, refusal.place, 0),
-    }
-}
-
 /// One call: true if the answer is the expected one, the room holds the expected table or is as it was, and
 /// no other byte has changed, of the table neither.
 fn call_agrees(input: &mut Input, expected: Result<&[u8], Refusal>, room: &mut LentRoom) -> bool {
@@ -55,7 +46,7 @@ fn call_agrees(input: &mut Input, expected: Result<&[u8], Refusal>, room: &mut L
     let (at, size) = room.lend();
     let answer = unsafe { library::ibft_rebuild(table, table_size, at, size) };
     let wrong_byte = room.first_wrong_byte(expected.unwrap_or_default());
-    let as_expected = packed_rebuild(&expected);
+    let as_expected = packed_table(&expected);
     if answer == as_expected && wrong_byte.is_none() && input.table.is_unchanged() {
         return true;
     }
@@ -140,7 +131,7 @@ fn is_built_from_range(input: &mut Input, expected: &Rebuilt) -> bool {
     let (at, size) = room.lend();
     let answer =
         unsafe { library::ibft_build(range.as_ptr(), range.len(), table, table_size, at, size) };
-    if answer != packed_rebuild(&Ok(&expected.table)) || !room.holds_only(&expected.table) {
+    if answer != packed(0, 0, expected.table.len() as u64) || !room.holds_only(&expected.table) {
         return differs(input, &format!("built: {}", in_words(answer)));
     }
     true

@@ -91,7 +91,7 @@ fn is_entered(output: &Output, expected: &Entered) -> bool {
             stdout.is_empty() && *stderr == format!("{}\n", message).into_bytes()
         }
         Entered::Refused(refusal, words) => {
-            let lines = format!("{}\n{}\n", refused_line(refusal), words);
+            let lines = format!("{}\n{}\n", refusal.line(), words);
             stdout.is_empty() && *stderr == lines.into_bytes()
         }
     }
@@ -131,10 +131,7 @@ fn entered_again(record: &Record) -> Entered {
     let has_zero = |text: &Option<Vec<u8>>| matches!(text, Some(text) if text.contains(&0));
     match record.entries.iter().position(has_zero) {
         None => Entered::Table(table_of(record)),
-        Some(entry) => {
-            let (number, place) = (20, entry as u64);
-            refused(record, Refusal { number, place })
-        }
+        Some(entry) => refused(record, Refusal::new(20, entry as u64)),
     }
 }
 

@@ -18,6 +18,9 @@ fn name(refusal: &Refusal) -> String {
     }
 }
 
+/// A refusal that must be met, whatever checksum byte comes with it.
+pub type NumberAndPlace = (u64, u64);
+
 /// Pairs of which both must have applied to one table: the first is the answer.
 pub const HEADER_PAIRS: &[(&str, &str)] = &[
     ("4", "5"),
@@ -92,14 +95,11 @@ impl FamilyRefusals {
     }
 
     /// Was every one of these refusals met, and every one of these pairs?
-    pub fn are_met(&self, subject: &str, wanted: &[Refusal], pairs: &[(&str, &str)]) -> bool {
-        let unmet = |refusal: &&Refusal| self.times(refusal.number, refusal.place) == 0;
-        let missing: Vec<&Refusal> = wanted.iter().filter(unmet).collect();
-        for refusal in &missing {
-            println!(
-                "{}: no input has refusal {} at {}",
-                subject, refusal.number, refusal.place
-            );
+    pub fn are_met(&self, subject: &str, wanted: &[NumberAndPlace], pairs: &[(&str, &str)]) -> bool {
+        let unmet = |(number, place): &&NumberAndPlace| self.times(*number, *place) == 0;
+        let missing: Vec<&NumberAndPlace> = wanted.iter().filter(unmet).collect();
+        for (number, place) in &missing {
+            println!("{}: no input has refusal {} at {}", subject, number, place);
         }
         let key = |pair: &(&str, &str)| (pair.0.to_string(), pair.1.to_string());
         let apart: Vec<_> = pairs
@@ -117,22 +117,18 @@ impl FamilyRefusals {
 }
 
 /// The refusals of a header, and 30 at each of these reserved bytes.
-pub fn header_refusals(reserved: &[usize]) -> Vec<Refusal> {
+pub fn header_refusals(reserved: &[usize]) -> Vec<NumberAndPlace> {
     let header = [(3, 0), (4, 0), (5, 4), (6, 9), (7, 8), (8, 10), (8, 16)];
     let at_reserved = reserved.iter().map(|place| (30, *place as u64));
     assert!(reserved.starts_with(&RESERVED.collect::<Vec<usize>>()));
-    let all = header.into_iter().chain(at_reserved);
-    all.map(|(number, place)| Refusal { number, place }).collect()
+    header.into_iter().chain(at_reserved).collect()
 }
 
 /// The refusals of an sBFT's parts: of each offset word, and of the IB part's reserved bytes where a write lays
 /// it and as far up as they can stand.
-pub fn part_refusals() -> Vec<Refusal> {
+pub fn part_refusals() -> Vec<NumberAndPlace> {
     let words = [(31, 36), (31, 38), (31, 40), (32, 38), (32, 40)];
     let laid = (130..136).map(|place| (30, place));
-    let all = words
-        .into_iter()
-        .chain(laid)
-        .chain([(30, 65_536), (30, LAST_PLACE)]);
-    all.map(|(number, place)| Refusal { number, place }).collect()
+    let far = [(30, 65_536), (30, LAST_PLACE)];
+    words.into_iter().chain(laid).chain(far).collect()
 }

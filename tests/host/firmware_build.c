@@ -235,6 +235,7 @@ static void expect_refused(const char *what, const struct ibft_record *record, s
     expect(ibft_answer_number(answer) == number, "the number");
     expect(ibft_answer_place(answer) == place, "the place");
     expect(ibft_answer_length(answer) == 0, "a refused build has Length 0");
+    expect(answer >> 32 == 0, "bits 32-63 are 0");
     expect(is_pattern(memory, sizeof memory), "a refused build leaves the room untouched");
 }
 

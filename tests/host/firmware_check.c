@@ -1,7 +1,7 @@
 /*
  * The check as firmware calls it: a table is laid in low memory, found by the
  * scan, checked, and read through the structures of bootfw.h; then refusals are
- * met, each with its place.
+ * met, each with its place, and that of a wrong sum with the byte that would be right.
  */
 #include <bootfw.h>
 
@@ -20,6 +20,9 @@ static bool accept_ibft(const uint8_t *table, size_t table_size)
         return true;
     printf("iBFT refused %u %u: %s\n", (unsigned)ibft_answer_number(answer),
            (unsigned)ibft_answer_place(answer), ibft_refusal_text(ibft_answer_number(answer)));
+    if (ibft_answer_number(answer) == IBFT_REFUSED_SUM)
+        printf("the checksum is %u, and %u would be right\n",
+               (unsigned)table[ibft_answer_place(answer)], (unsigned)ibft_answer_checksum(answer));
     return false;
 }
 /* end of example */
@@ -132,6 +135,25 @@ static void expect_refused(const char *what, size_t at, uint8_t byte,
     expect(ibft_answer_number(answer) == number, "the number");
     expect(ibft_answer_place(answer) == place, "the place");
     expect(answer >> 32 == 0, "bits 32-63 are 0");
+    expect(ibft_answer_checksum(answer) == 0, "no checksum byte");
+    expect(ibft_answer_length(answer) == 0, "no Length");
+}
+
+/* The table as it stands, whose sum is wrong: the byte that would be right at 9. With more bytes
+ * lent it is the same. */
+static void expect_wrong_sum(const char *what, uint8_t checksum)
+{
+    uint64_t answer = ibft_check(table, TABLE_LENGTH);
+
+    printf("firmware_check: %s: refused %u %u %u\n", what, (unsigned)ibft_answer_number(answer),
+           (unsigned)ibft_answer_place(answer), (unsigned)ibft_answer_checksum(answer));
+    expect(ibft_answer_number(answer) == IBFT_REFUSED_SUM, "the number");
+    expect(ibft_answer_place(answer) == 9, "the place");
+    expect(ibft_answer_checksum(answer) == checksum, "the checksum byte");
+    expect(ibft_answer_length(answer) == 0, "a byte is no Length");
+    expect(answer >> 40 == 0, "bits 40-63 are 0");
+    table[TABLE_LENGTH] = 7;
+    expect(ibft_check(table, TABLE_LENGTH + 1) == answer, "a byte behind the table");
 }
 
 static void finds_and_accepts(void)
@@ -210,9 +232,27 @@ static void meets_refusals(void)
     expect_refused("name below the heap", TARGET + 36, 66, IBFT_REFUSED_ENTRY_PLACE, TARGET + 34);
     expect_refused("no zero behind a name", TARGET + 34, 4, IBFT_REFUSED_ENTRY_END, TARGET + 34);
     expect_refused("host name with a hole", HOST_NAME + 3, ' ', IBFT_REFUSED_HOST_NAME, NIC + 98);
+}
+
+/* Another byte at 9; another byte elsewhere; and one that makes the right byte 0. */
+static void meets_wrong_sums(void)
+{
+    uint8_t right;
+
     lay_table();
+    right = table[9];
     table[9]++;
+    expect_wrong_sum("a wrong checksum byte", right);
     expect(!accept_ibft(table, TABLE_LENGTH), "a wrong sum is refused");
+    table[9] = right;
+    expect(accept_ibft(table, TABLE_LENGTH), "the right byte is accepted");
+    table[TARGET_NAME]++;
+    expect_wrong_sum("a letter changed", (uint8_t)(right - 1));
+    table[TARGET_NAME]--;
+    table[24] = right;
+    expect_wrong_sum("a reserved byte changed", 0);
+    table[8] = 2;
+    expect_wrong_sum("Revision 2 beside it", UINT8_MAX);
 }
 
 int main(void)
@@ -221,5 +261,6 @@ int main(void)
     reads_the_target();
     finds_structures();
     meets_refusals();
+    meets_wrong_sums();
     return 0;
 }

@@ -65,11 +65,20 @@ static void expect_answer(const char *what, uint64_t answer, enum ibft_refusal n
                           uint64_t place)
 {
     if (ibft_answer_number(answer) != number || ibft_answer_place(answer) != place
-        || ibft_answer_length(answer) != 0) {
+        || answer >> 32 != 0) {
         printf("firmware_families: %s: 0x%lx is not %u %u\n", what, (unsigned long)answer,
                (unsigned)number, (unsigned)place);
         exit(1);
     }
+}
+
+/* Of a wrong sum, with the byte that would be right at 9. */
+static void expect_wrong_sum(const char *what, uint64_t answer, uint8_t checksum)
+{
+    expect(ibft_answer_checksum(answer) == checksum, what);
+    expect(ibft_answer_length(answer) == 0, "a byte is no Length");
+    expect(answer >> 40 == 0, "bits 40-63 of a wrong sum");
+    expect_answer(what, answer & UINT32_MAX, IBFT_REFUSED_SUM, 9);
 }
 
 /* Sets the checksum byte of the table at the start of the memory. */
@@ -141,7 +150,9 @@ static void refuses_abft(void)
                   IBFT_REFUSED_RESERVED, 39);
     lay_abft();
     memory[9]++;
-    expect_answer("sum", abft_check(memory, ABFT_LENGTH), IBFT_REFUSED_SUM, 9);
+    expect_wrong_sum("sum", abft_check(memory, ABFT_LENGTH), (uint8_t)(memory[9] - 1));
+    memory[ABFT_LENGTH] = 7;
+    expect_wrong_sum("sum, more lent", abft_check(memory, sizeof memory), (uint8_t)(memory[9] - 1));
     memset(&image, 0, sizeof image);
     expect_answer("a byte of room too few", abft_write((const uint8_t *)&image, sizeof image,
                                                        memory, ABFT_LENGTH - 1),
@@ -232,6 +243,11 @@ static void refuses_sbft(void)
 
     expect_answer("signature", check_sbft_with(0, 'a'), IBFT_REFUSED_SIGNATURE, 0);
     expect_answer("Length 47", check_sbft_with(4, 47), IBFT_REFUSED_LENGTH, 4);
+    lay_sbft(1);
+    memory[SBFT_LENGTH - 20]++;
+    expect_wrong_sum("sum", sbft_check(memory, SBFT_LENGTH), (uint8_t)(memory[9] - 1));
+    memory[SBFT_LENGTH] = 7;
+    expect_wrong_sum("sum, more lent", sbft_check(memory, sizeof memory), (uint8_t)(memory[9] - 1));
     for (i = 24; i < 36; i++)
         expect_answer("reserved", check_sbft_with(i, 1), IBFT_REFUSED_RESERVED, i);
     for (i = 42; i < SBFT_LEAST_LENGTH; i++)

@@ -176,8 +176,7 @@ static void names_header(void)
     expect(memcmp(header.oem_table_id, "CABINET", sizeof "CABINET") == 0, "OEM Table ID");
     header.checksum++;
     memcpy(room, &header, sizeof header);
-    expect_answer(ibft_check(room, IBFT_LEAST_LENGTH), IBFT_REFUSED_SUM,
-                  offsetof(struct ibft_table_header, checksum));
+    expect_wrong_sum(ibft_check(room, IBFT_LEAST_LENGTH), (uint8_t)(header.checksum - 1));
 }
 
 /* A table at the address, lent alone. */
@@ -207,15 +206,24 @@ static void names_window(void)
            "one byte past its end");
 }
 
+/* What stands from bit 32 on is the Length where the number is 0, a checksum byte where it is 6,
+ * and with any other number nothing. */
 static void names_parts_of_an_answer(void)
 {
-    const uint64_t answer = 0x0123456789ABCDEFul;
+    unsigned number;
 
     about = "an answer's parts";
-    expect(ibft_answer_number(answer) == 0xEF, "the number");
-    expect(ibft_answer_place(answer) == 0x89ABCD, "the place");
-    expect(ibft_answer_address(answer) == 0x89ABCD, "the address");
-    expect(ibft_answer_length(answer) == 0x01234567, "the Length");
+    for (number = 0; number <= UINT8_MAX; number++) {
+        const uint64_t answer = 0x0123456789ABCD00ul + number;
+
+        expect(ibft_answer_number(answer) == number, "the number");
+        expect(ibft_answer_place(answer) == 0x89ABCD, "the place");
+        expect(ibft_answer_address(answer) == 0x89ABCD, "the address");
+        expect(ibft_answer_length(answer) == (number == IBFT_ACCEPTED ? 0x01234567u : 0u),
+               "the Length");
+        expect(ibft_answer_checksum(answer) == (number == IBFT_REFUSED_SUM ? 0x67u : 0u),
+               "the checksum byte");
+    }
 }
 
 /* RULES.md: 192.168.70.50 ends in 0x32; PCI word 0x0019 is bus 0, device 3,

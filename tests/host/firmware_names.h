@@ -43,9 +43,11 @@ extern uint8_t room[IBFT_LARGEST_LENGTH_WITH_EXTRAS];
 /* What is being compared. */
 extern const char *about;
 
-/* These end the program where something is not as it should be. */
+/* These end the program where something is not as it should be. An answer is any but one with
+ * IBFT_REFUSED_SUM, which comes with the checksum byte that would be right. */
 void expect(int holds, const char *what);
 void expect_answer(uint64_t answer, enum ibft_refusal number, uint64_t place);
+void expect_wrong_sum(uint64_t answer, uint8_t checksum);
 
 /* Nothing present; each entry's stretch holds labels of one letter with dots
  * between, which of odd length are a host name. The longest lengths are odd. */

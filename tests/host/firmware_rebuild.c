@@ -218,8 +218,9 @@ static void rebuilds_extras(void)
     printf("firmware_rebuild: NICs 2 and 5 and Target 9 by Index\n");
 }
 
-static void expect_refused(const char *what, size_t table_size, size_t room_size,
-                           enum ibft_refusal number, uint32_t place)
+/* A refused rebuild; says what stands from bit 32 on of the answer. */
+static uint64_t refused(const char *what, size_t table_size, size_t room_size,
+                        enum ibft_refusal number, uint32_t place)
 {
     uint64_t answer;
 
@@ -230,7 +231,26 @@ static void expect_refused(const char *what, size_t table_size, size_t room_size
     expect(ibft_answer_number(answer) == number, "the number");
     expect(ibft_answer_place(answer) == place, "the place");
     expect(ibft_answer_length(answer) == 0, "a refused rebuild has Length 0");
+    expect(answer >> 32 == ibft_answer_checksum(answer), "a checksum byte at most");
     expect(is_pattern(memory, sizeof memory), "a refused rebuild leaves the room untouched");
+    return answer >> 32;
+}
+
+static void expect_refused(const char *what, size_t table_size, size_t room_size,
+                           enum ibft_refusal number, uint32_t place)
+{
+    expect(refused(what, table_size, room_size, number, place) == 0, "bits 32-63 are 0");
+}
+
+/* A wrong sum comes with the byte that would be right, whatever is lent and whatever the room. */
+static void expect_wrong_sum(size_t table_size, uint8_t checksum)
+{
+    const enum ibft_refusal number = IBFT_REFUSED_SUM;
+
+    expect(refused("a wrong sum", table_size, TABLE_SIZE, number, CHECKSUM) == checksum, "the byte");
+    expect(refused("that, no room", table_size, 0, number, CHECKSUM) == checksum, "the byte");
+    table[table_size] = 7;
+    expect(refused("that, more lent", sizeof table, 0, number, CHECKSUM) == checksum, "the byte");
 }
 
 /* One thing is wrong after another; what the check refuses comes first, then 20, then 21. */
@@ -254,7 +274,7 @@ static void refuses(const char *folder)
     mend_sum(size);
     expect_refused("CHAP type 3", size, TABLE_SIZE, IBFT_REFUSED_CHAP_TYPE, start + 32u);
     table[CHECKSUM]++;
-    expect_refused("a wrong sum", size, TABLE_SIZE, IBFT_REFUSED_SUM, CHECKSUM);
+    expect_wrong_sum(size, (uint8_t)(table[CHECKSUM] - 1));
     expect_refused("a table that is cut", size - 1, TABLE_SIZE, IBFT_REFUSED_LENGTH, 4);
     expect_refused("nothing lent", 0, TABLE_SIZE, IBFT_REFUSED_FEW_BYTES, 0);
 }

@@ -74,6 +74,18 @@ void expect_answer(uint64_t answer, enum ibft_refusal number, uint64_t place)
                (unsigned)number, (unsigned)place);
         exit(1);
     }
+    expect(number == IBFT_ACCEPTED || answer >> 32 == 0, "a refusal has nothing from bit 32 on");
+    expect(ibft_answer_checksum(answer) == 0, "there is no checksum byte");
+}
+
+void expect_wrong_sum(uint64_t answer, uint8_t checksum)
+{
+    expect(ibft_answer_number(answer) == IBFT_REFUSED_SUM, "a wrong sum");
+    expect(ibft_answer_place(answer) == offsetof(struct ibft_table_header, checksum),
+           "the place of a wrong sum");
+    expect(ibft_answer_checksum(answer) == checksum, "the byte that would be right");
+    expect(ibft_answer_length(answer) == 0, "a wrong sum has no Length");
+    expect(answer >> 40 == 0, "a wrong sum has nothing from bit 40 on");
 }
 
 void clear_record(void)

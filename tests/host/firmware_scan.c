@@ -95,6 +95,7 @@ static void expect_refused(const char *what, uint64_t answer, enum ibft_refusal 
     expect(ibft_answer_number(answer) == number, what);
     expect(ibft_answer_address(answer) == 0, "a refused scan has address 0");
     expect(ibft_answer_length(answer) == 0, "a refused scan has Length 0");
+    expect(answer == number, "a refused scan has nothing but its number");
 }
 
 static void finds_the_table(void)

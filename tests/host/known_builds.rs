@@ -1,10 +1,9 @@
 //! Builds of the records of RULES.md, Worked cases, with the answers and offsets given there; and of records
 //! with secrets, with the heap written out.
 
-use crate::compare_build::{in_words, packed_build};
 use crate::lent_build::LentBuild;
 use crate::library;
-use crate::model_answer::packed;
+use crate::model_answer::{in_words, packed, packed_table};
 use crate::model_build::build;
 use crate::record_maker::*;
 use crate::samples::SAMPLES;
@@ -390,7 +389,7 @@ fn builds_as_known(known: &Known) -> bool {
         Ok(length) => packed(0, 0, *length),
         Err((number, place)) => packed(*number, *place, 0),
     };
-    let by_document = packed_build(&build(lent.record(), lent.strings(), *room_size));
+    let by_document = packed_table(&build(lent.record(), lent.strings(), *room_size));
     let by_library = lent.built_by(library::ibft_build);
     if [by_document, by_library] != [expected; 2] {
         println!("build: {}: {}", name, in_words(expected));

@@ -1,8 +1,8 @@
 //! A Control of 24 bytes worked by hand: NIC 5 at 72, Target 9 at 176 and Target 255 at 232, under three
 //! extra words in two orders; what is wrong with it then, and what its readings give.
 
-use crate::compare_check::packed_verdict;
 use crate::library;
+use crate::model_answer::packed_verdict;
 use crate::model_check::{check, Refusal, Verdict};
 use crate::model_layout::*;
 use crate::model_login::{login_order, places};
@@ -65,7 +65,7 @@ fn put(word: usize, kind: Kind, index: u8, start: usize) -> Table {
 }
 
 fn refused(number: u64, place: u64) -> Verdict {
-    Err(Refusal { number, place })
+    Err(Refusal::new(number, place))
 }
 
 fn known() -> Vec<(&'static str, Table, Verdict)> {

@@ -1,13 +1,12 @@
 //! Rebuilds of tables that are known by name: worked cases, tables that firmware wrote, one that gets longer by
-//! the order of its structures, those that do as their secrets share bytes, and strings with a zero byte, with
-//! the answers worked by hand.
+//! the order of its structures, those that do as their secrets share bytes, strings with a zero byte and sums
+//! that are wrong, with the answers worked by hand.
 
 use crate::build_sights::LARGEST_LENGTH;
-use crate::compare_build::in_words;
-use crate::compare_rebuild::packed_rebuild;
 use crate::lent_room::LentRoom;
 use crate::library;
-use crate::model_answer::packed;
+use crate::model_answer::{in_words, packed, packed_table};
+use crate::model_check::Refusal;
 use crate::model_layout::*;
 use crate::model_rebuild::rebuilt;
 use crate::samples::SAMPLES;
@@ -19,7 +18,7 @@ struct Known {
     name: &'static str,
     table: Vec<u8>,
     room_size: usize,
-    answer: Result<u64, (u64, u64)>,
+    answer: Result<u64, Refusal>,
 }
 
 /// Rebuilt in as many bytes as it takes; and refused for want of one of them.
@@ -31,15 +30,22 @@ fn rebuilt_as(name: &'static str, table: &[u8], before: usize, after: u64) -> [K
         room_size: room_size as usize,
         answer,
     };
-    [known(after, Ok(after)), known(after - 1, Err((21, 0)))]
+    [
+        known(after, Ok(after)),
+        known(after - 1, Err(Refusal::new(21, 0))),
+    ]
 }
 
 fn refused(name: &'static str, table: Table, number: u64, place: u64) -> [Known; 2] {
+    refused_by(name, table, Refusal::new(number, place))
+}
+
+fn refused_by(name: &'static str, table: Table, refusal: Refusal) -> [Known; 2] {
     let known = |room_size: usize| Known {
         name,
         table: table.bytes.clone(),
         room_size,
-        answer: Err((number, place)),
+        answer: Err(refusal),
     };
     [known(LARGEST_LENGTH), known(0)]
 }
@@ -241,13 +247,41 @@ fn known_tables() -> Vec<Known> {
         18,
         170,
     ));
+    // The signature sums to 325, Length is 66, Revision 1, Control's first bytes are 1, 1 and 18: 412 in
+    // all, and 512 with 100.
+    known.extend(refused_by(
+        "a checksum byte of 0",
+        structures(&[]),
+        Refusal::of_sum(100),
+    ));
+    // 200 in a reserved byte makes it 612, and 768 with 156; 100 there 512.
+    let with_reserved = |byte: u8, checksum: u8| {
+        let mut table = structures(&[]);
+        table.write(CHECKSUM as usize, &[checksum]);
+        table.write(47, &[byte]);
+        table
+    };
+    known.extend(refused_by(
+        "a reserved byte changed",
+        with_reserved(200, 100),
+        Refusal::of_sum(156),
+    ));
+    known.extend(refused_by(
+        "a right byte of 0",
+        with_reserved(100, 255),
+        Refusal::of_sum(0),
+    ));
     known
 }
 
 fn is_as_known(known: &Known) -> bool {
     let expected = match known.answer {
         Ok(length) => packed(0, 0, length),
-        Err((number, place)) => packed(number, place, 0),
+        Err(Refusal {
+            number,
+            place,
+            checksum,
+        }) => packed(number, place, u64::from(checksum)),
     };
     let by_document = rebuilt(&known.table);
     let by_document = match &by_document {
@@ -258,12 +292,12 @@ fn is_as_known(known: &Known) -> bool {
     let (at, size) = room.lend();
     let (table, table_size) = (known.table.as_ptr(), known.table.len());
     let answer = unsafe { library::ibft_rebuild(table, table_size, at, size) };
-    let agrees = [answer, packed_rebuild(&by_document)] == [expected; 2]
+    let agrees = [answer, packed_table(&by_document)] == [expected; 2]
         && room.holds_only(by_document.unwrap_or_default());
     if !agrees {
         println!("rebuild: {}: {}", known.name, in_words(expected));
         println!("  library  {}", in_words(answer));
-        println!("  document {}", in_words(packed_rebuild(&by_document)));
+        println!("  document {}", in_words(packed_table(&by_document)));
     }
     agrees
 }

@@ -755,9 +755,7 @@ fn is_answered_as_known(known: &Known) -> bool {
     let as_known = match (&entered, &known.answer) {
         (Entered::Table(table), Told(text)) => tell(table) == *text,
         (Entered::Unread(message), Unread(known)) => message == known,
-        (Entered::Refused(Refusal { number, place }, _), Refused(n, p)) => {
-            (number, place) == (n, p)
-        }
+        (Entered::Refused(refusal, _), Refused(n, p)) => *refusal == Refusal::new(*n, *p),
         _ => false,
     };
     if !as_known {

@@ -50,6 +50,8 @@ extern "C" {
     pub fn test_nic_index(table: *const u8, size: usize, n: u8) -> u8;
     pub fn test_target_index(table: *const u8, size: usize, n: u8) -> u8;
     pub fn test_login_places(table: *const u8, size: usize) -> u64;
+    pub fn test_structure_checksum(table: *const u8, size: usize, slot: u8) -> u8;
+    pub fn test_login_checksum(table: *const u8, size: usize) -> u8;
 
     pub fn test_structure(table: *const u8, size: usize, slot: u8) -> u64;
     pub fn test_entry(table: *const u8, size: usize, entry: u8) -> u64;

@@ -1,23 +1,63 @@
 //! RULES.md, Refusals 3 to 19, 33 and 34, read a second time: each rule once, in the order of the
 //! check. The first that applies is the answer.
 
+use crate::model_checksum::checksum;
 use crate::model_host_name::is_host_name;
 use crate::model_layout::*;
 
-/// Why a call refuses, and the place.
+/// Why a call refuses, and the place; with 6 the checksum byte that would be right, else 0.
 #[derive(Clone, Copy, Debug, PartialEq)]
 pub struct Refusal {
     pub number: u64,
     pub place: u64,
+    pub checksum: u8,
+}
+
+impl Refusal {
+    /// Any but 6.
+    pub const fn new(number: u64, place: u64) -> Refusal {
+        assert!(number != 6);
+        Refusal {
+            number,
+            place,
+            checksum: 0,
+        }
+    }
+
+    /// 6, with the byte that would be right.
+    pub const fn of_sum(checksum: u8) -> Refusal {
+        Refusal {
+            number: 6,
+            place: CHECKSUM,
+            checksum,
+        }
+    }
+
+    /// The line that programs print: the byte is there with 6 alone, and then also where it is 0.
+    pub fn line(&self) -> String {
+        match self.number {
+            6 => format!("refused 6 {} {}", self.place, self.checksum),
+            number => format!("refused {} {}", number, self.place),
+        }
+    }
 }
 
 pub type Verdict = Result<(), Refusal>;
 
 pub fn refuse_if(applies: bool, number: u64, place: u64) -> Verdict {
     if applies {
-        Err(Refusal { number, place })
+        Err(Refusal::new(number, place))
     } else {
         Ok(())
+    }
+}
+
+/// 6, of a table that has all its Length bytes: those alone are summed, whatever is lent behind them.
+pub fn check_sum(table: &[u8]) -> Verdict {
+    let bytes = &table[..length(table) as usize];
+    match sum(bytes) % 256 {
+        0 => Ok(()),
+        _ => Err(Refusal::of_sum(checksum(bytes, CHECKSUM as usize))),
     }
 }
 
@@ -50,11 +90,7 @@ fn check_header(table: &[u8]) -> Verdict {
         5,
         LENGTH,
     )?;
-    refuse_if(
-        sum(&table[..length(table) as usize]) % 256 != 0,
-        6,
-        CHECKSUM,
-    )?;
+    check_sum(table)?;
     refuse_if(byte(table, REVISION) != 1, 7, REVISION)?;
     for field in [OEM_ID, OEM_TABLE_ID] {
         let place = field.start as u64;

@@ -92,10 +92,6 @@ pub fn given_from(record: &Record) -> Given {
     given
 }
 
-pub fn refused_line(refusal: &Refusal) -> String {
-    format!("refused {} {}", refusal.number, refusal.place)
-}
-
 pub fn tell(input: &[u8]) -> String {
     told(input, text_of)
 }
@@ -109,6 +105,6 @@ fn told(input: &[u8], text_of: fn(&Record) -> String) -> String {
     let table = &input[..input.len().min(INPUT_LIMIT)];
     match check(table) {
         Ok(()) => text_of(&record_read(table).unwrap()),
-        Err(refusal) => format!("{}\n", refused_line(&refusal)),
+        Err(refusal) => format!("{}\n", refusal.line()),
     }
 }

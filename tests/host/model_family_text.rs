@@ -3,7 +3,7 @@
 
 use crate::model_abft::{self as abft, Abft};
 use crate::model_check::Refusal;
-use crate::model_enter_tell::{self as ibft, refused_line, Entered, INPUT_LIMIT};
+use crate::model_enter_tell::{self as ibft, Entered, INPUT_LIMIT};
 use crate::model_header::oem_faults;
 use crate::model_layout::length;
 use crate::model_notation::Notation::{self, *};
@@ -250,7 +250,7 @@ pub fn tell(input: &[u8]) -> String {
     }
     let values = match told_values(&family, &input[..input.len().min(INPUT_LIMIT)]) {
         Ok(values) => values,
-        Err(refusal) => return format!("{}\n", refused_line(&refusal)),
+        Err(refusal) => return format!("{}\n", refusal.line()),
     };
     let mut text = String::new();
     for ((name, notation), value) in values {
@@ -277,7 +277,7 @@ pub fn show(input: &[u8]) -> String {
         SBFT => shown_sbft(table),
         _ => return model_show::show(input),
     };
-    shown.unwrap_or_else(|refusal| format!("{}\n", refused_line(&refusal)))
+    shown.unwrap_or_else(|refusal| format!("{}\n", refusal.line()))
 }
 
 fn shown_abft(table: &[u8]) -> Result<String, Refusal> {

@@ -1,16 +1,12 @@
 //! The header that an aBFT and an sBFT begin with, read from the papers a second time: refusals 3 to 8,
 //! and 30 for reserved bytes. A fault is a refusal that applies; the first of them is the answer of a check.
 
-use crate::model_check::{is_zero_after_first_zero, Refusal};
+use crate::model_check::{check_sum, is_zero_after_first_zero, Refusal};
 use crate::model_layout::{length, CHECKSUM, LENGTH, OEM_ID, OEM_TABLE_ID, REVISION};
 use crate::model_scan::Family;
 
 /// Bytes 24 to 35 are reserved in both families.
 pub const RESERVED: std::ops::RangeInclusive<usize> = 24..=35;
-
-pub fn fault(number: u64, place: u64) -> Refusal {
-    Refusal { number, place }
-}
 
 /// Is there a whole table, so that what stands in it can be asked for?
 pub fn is_whole(family: &Family, table: &[u8]) -> bool {
@@ -23,23 +19,19 @@ pub fn is_whole(family: &Family, table: &[u8]) -> bool {
 /// All of 3 to 8 that apply, as far as the bytes are there to tell.
 pub fn header_faults(family: &Family, table: &[u8]) -> Vec<Refusal> {
     if (table.len() as u128) < family.least_length {
-        return vec![fault(3, 0)];
+        return vec![Refusal::new(3, 0)];
     }
     let mut faults = Vec::new();
     if table[..4] != family.signature {
-        faults.push(fault(4, 0));
+        faults.push(Refusal::new(4, 0));
     }
     if !is_whole(family, table) {
-        faults.push(fault(5, LENGTH));
+        faults.push(Refusal::new(5, LENGTH));
         return faults;
     }
-    let bytes = &table[..length(table) as usize];
-    let sum: u64 = bytes.iter().map(|byte| u64::from(*byte)).sum();
-    if sum % 256 != 0 {
-        faults.push(fault(6, CHECKSUM));
-    }
+    faults.extend(check_sum(table).err());
     if table[REVISION as usize] != 1 {
-        faults.push(fault(7, REVISION));
+        faults.push(Refusal::new(7, REVISION));
     }
     faults.extend(oem_faults(table));
     faults
@@ -50,7 +42,7 @@ pub fn oem_faults(table: &[u8]) -> Vec<Refusal> {
     [OEM_ID, OEM_TABLE_ID]
         .into_iter()
         .filter(|field| !is_zero_after_first_zero(&table[field.clone()]))
-        .map(|field| fault(8, field.start as u64))
+        .map(|field| Refusal::new(8, field.start as u64))
         .collect()
 }
 
@@ -58,7 +50,7 @@ pub fn oem_faults(table: &[u8]) -> Vec<Refusal> {
 pub fn reserved_faults(table: &[u8], places: impl Iterator<Item = usize>) -> Vec<Refusal> {
     places
         .filter(|place| table[*place] != 0)
-        .map(|place| fault(30, place as u64))
+        .map(|place| Refusal::new(30, place as u64))
         .collect()
 }
 
@@ -93,7 +85,7 @@ pub fn written(oem: Vec<Refusal>, table: Vec<u8>, room_size: usize) -> Result<Ve
         return Err(*refusal);
     }
     if table.len() > room_size {
-        return Err(fault(21, 0));
+        return Err(Refusal::new(21, 0));
     }
     Ok(table)
 }

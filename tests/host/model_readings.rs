@@ -71,14 +71,8 @@ pub struct Target {
     pub reverse_secret: EntryWords,
 }
 
-const MISSING: Refusal = Refusal {
-    number: 22,
-    place: 0,
-};
-const NO_SUCH: Refusal = Refusal {
-    number: 23,
-    place: 0,
-};
+const MISSING: Refusal = Refusal::new(22, 0);
+const NO_SUCH: Refusal = Refusal::new(23, 0);
 
 // ---- Readings ----
 

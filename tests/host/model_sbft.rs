@@ -109,13 +109,13 @@ pub fn faults(table: &[u8]) -> Vec<Refusal> {
     }
     faults.extend(reserved_faults(table, reserved().into_iter()));
     let outside = PARTS.iter().filter(|part| is_outside(table, part));
-    faults.extend(outside.map(|part| fault(31, part.word as u64)));
+    faults.extend(outside.map(|part| Refusal::new(31, part.word as u64)));
     for (i, later) in PARTS.iter().enumerate() {
         if PARTS[..i]
             .iter()
             .any(|earlier| share_a_byte(table, earlier, later))
         {
-            faults.push(fault(32, later.word as u64));
+            faults.push(Refusal::new(32, later.word as u64));
         }
     }
     if let Some(bytes) = stretch(table, &IB).filter(|_| !is_outside(table, &IB)) {
@@ -133,7 +133,7 @@ pub fn part_verdict(table: &[u8], part: &Part) -> Verdict {
     check(table)?;
     match start(table, part) {
         Some(_) => Ok(()),
-        None => Err(fault(22, 0)),
+        None => Err(Refusal::new(22, 0)),
     }
 }
 

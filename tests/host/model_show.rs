@@ -14,7 +14,7 @@ pub fn show(input: &[u8]) -> String {
     let table = &input[..input.len().min(INPUT_LIMIT)];
     match lines(table) {
         Ok(text) => text,
-        Err(refusal) => format!("refused {} {}\n", refusal.number, refusal.place),
+        Err(refusal) => format!("{}\n", refusal.line()),
     }
 }
 

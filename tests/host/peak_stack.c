@@ -301,6 +301,15 @@ static uint64_t refused(uint64_t number, uint64_t place)
     return number | place << 8;
 }
 
+uint64_t refused_for_sum(const uint8_t *table, size_t length)
+{
+    uint8_t right = table[9];
+
+    for (size_t i = 0; i < length; i++)
+        right = (uint8_t)(right - table[i]);
+    return refused(IBFT_REFUSED_SUM, 9) | (uint64_t)right << 32;
+}
+
 /* The checks of the largest table: `what` says of which. */
 static void measure_checks_of(const char *what, size_t extras, size_t length)
 {
@@ -316,7 +325,7 @@ static void measure_checks_of(const char *what, size_t extras, size_t length)
     MEASURE(", host names with 127 dots", length, 0);
     MEASURE(", more bytes lent", WINDOW_SIZE, 0);
     memory[last_letter] = ' ';
-    MEASURE(", wrong sum", length, refused(IBFT_REFUSED_SUM, 9));
+    MEASURE(", wrong sum", length, refused_for_sum(memory, length));
     mend_sum(length);
     MEASURE(", refused at the last letter of a host name", length,
             refused(IBFT_REFUSED_HOST_NAME, nic_starts[last_nic] + 98));

@@ -30,6 +30,8 @@ void measure(const char *what, struct call call, uint64_t answer, size_t limit);
 /* Lays the largest table with so many extras of each kind, and says its Length; where it is laid. */
 size_t lay_largest_table(size_t extras);
 const uint8_t *table_bytes(void);
+/* What a check answers a table of so many bytes whose sum is wrong. */
+uint64_t refused_for_sum(const uint8_t *table, size_t length);
 void expect_length(size_t length, size_t expected);
 
 void measure_builds(void);

@@ -139,7 +139,8 @@ static void measure_abft(void)
     run("aBFT check, more bytes lent", run_abft_check, sizeof memory, 0);
     run("aBFT reading", run_abft, ABFT_LENGTH, 0);
     memory[39] = 1;
-    run("aBFT check, wrong sum", run_abft_check, ABFT_LENGTH, refused(IBFT_REFUSED_SUM, 9));
+    run("aBFT check, wrong sum", run_abft_check, ABFT_LENGTH, refused_for_sum(memory, ABFT_LENGTH));
+    run("aBFT reading, wrong sum", run_abft, ABFT_LENGTH, refused_for_sum(memory, ABFT_LENGTH));
     mend(memory, ABFT_LENGTH);
     run("aBFT check, refused at byte 39", run_abft_check, ABFT_LENGTH, refused(IBFT_REFUSED_RESERVED, 39));
     run("aBFT reading, refused", run_abft, ABFT_LENGTH, refused(IBFT_REFUSED_RESERVED, 39));
@@ -172,7 +173,8 @@ static void measure_sbft_checks(const char *which, uint16_t ib, uint32_t length)
     lay_sbft(ib, length);
     MEASURE("check", run_sbft_check, 0);
     memory[ib + LAST_RESERVED] = 1;
-    MEASURE("check, wrong sum", run_sbft_check, refused(IBFT_REFUSED_SUM, 9));
+    MEASURE("check, wrong sum", run_sbft_check, refused_for_sum(memory, length));
+    MEASURE("reading of the IB part, wrong sum", run_sbft_ib, refused_for_sum(memory, length));
     mend(memory, length);
     MEASURE("check, refused at the last byte", run_sbft_check,
             refused(IBFT_REFUSED_RESERVED, (uint64_t)ib + LAST_RESERVED));

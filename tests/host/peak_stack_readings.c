@@ -8,12 +8,14 @@
 
 uint64_t test_structure(const uint8_t *table, size_t size, uint8_t slot);
 uint8_t test_structure_index(const uint8_t *table, size_t size, uint8_t slot);
+uint8_t test_structure_checksum(const uint8_t *table, size_t size, uint8_t slot);
 uint64_t test_entry(const uint8_t *table, size_t size, uint8_t entry);
 uint64_t test_entry_place(const uint8_t *table, size_t size, uint8_t entry);
 size_t test_structure_view(const uint8_t *table, size_t size, uint8_t slot, uint8_t *out, size_t out_size);
 size_t test_entry_view(const uint8_t *table, size_t size, uint8_t entry, uint8_t *out, size_t out_size);
 uint64_t test_login_order(const uint8_t *table, size_t size);
 uint64_t test_login_places(const uint8_t *table, size_t size);
+uint8_t test_login_checksum(const uint8_t *table, size_t size);
 uint64_t test_header(const uint8_t *table, size_t size, uint8_t *out, size_t out_size);
 uint64_t test_initiator(const uint8_t *table, size_t size, uint8_t *out, size_t out_size);
 uint64_t test_nic(const uint8_t *table, size_t size, uint8_t n, uint8_t *out, size_t out_size);
@@ -35,12 +37,14 @@ static uint8_t out[OUT_SIZE];
 
 READING(structure, call->number)
 READING(structure_index, call->number)
+READING(structure_checksum, call->number)
 READING(structure_view, call->number, out, OUT_SIZE)
 READING(entry, call->number)
 READING(entry_place, call->number)
 READING(entry_view, call->number, out, OUT_SIZE)
 READING(login_order)
 READING(login_places)
+READING(login_checksum)
 READING(header, out, OUT_SIZE)
 READING(initiator, out, OUT_SIZE)
 READING(nic, call->number, out, OUT_SIZE)
@@ -56,12 +60,14 @@ static const struct {
 } readings[] = {
     { "structure", run_structure, 4, 16 },
     { "structure's Index", run_structure_index, 4, 16 },
+    { "structure's checksum", run_structure_checksum, 4, 16 },
     { "structure's view", run_structure_view, 4, 16 },
     { "entry", run_entry, 12, 48 },
     { "entry's place", run_entry_place, 12, 48 },
     { "entry's view", run_entry_view, 12, 48 },
     { "login order", run_login_order, 0, 0 },
     { "login places", run_login_places, 0, 0 },
+    { "login's checksum", run_login_checksum, 0, 0 },
     { "header", run_header, 0, 0 },
     { "initiator", run_initiator, 0, 0 },
     { "NIC", run_nic, 1, 7 },

@@ -133,7 +133,7 @@ static void measure_rebuilds_of(const char *which, size_t extras, size_t heap, s
     mend(length);
     MEASURE(", a zero byte in the last string", length, refused(IBFT_REFUSED_ENTRY_ZERO, last));
     table[9]++;
-    MEASURE(", wrong sum", length, refused(IBFT_REFUSED_SUM, 9));
+    MEASURE(", wrong sum", length, refused_for_sum(table, length));
 #undef MEASURE
 }
 

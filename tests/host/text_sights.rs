@@ -1,7 +1,6 @@
 //! What the programs were seen to write, so that a comparison that never met something is not taken
 //! for one that did.
 
-use crate::model_check::Refusal;
 use crate::model_enter_tell::Entered;
 use crate::model_layout::*;
 use crate::model_text::*;
@@ -179,10 +178,10 @@ impl TextSights {
                 count(&mut self.reasons, reason(message).to_string());
                 self.see_unread(text, message);
             }
-            Entered::Refused(Refusal { number, place }, words) => {
-                count(&mut self.refusals, (*number, *place));
+            Entered::Refused(refusal, words) => {
+                count(&mut self.refusals, (refusal.number, refusal.place));
                 let field = words.split(':').next().unwrap();
-                count(&mut self.refused, (*number, in_general(field)));
+                count(&mut self.refused, (refusal.number, in_general(field)));
             }
         }
     }

@@ -3,7 +3,8 @@
 //! the back as the library does: two calls that answer the same.
 
 use crate::twin_check::{
-    has_zero_tail, is_host_name, word, Kind, Refusal, ALL_SLOTS, INITIATOR, NAMED, NIC, TARGET,
+    has_zero_tail, is_host_name, refused, word, Kind, Refusal, ALL_SLOTS, INITIATOR, NAMED, NIC,
+    TARGET,
 };
 use crate::twins::sum;
 use std::slice::{from_raw_parts, from_raw_parts_mut};
@@ -83,7 +84,7 @@ pub unsafe extern "C" fn rust_build_from_back(
 fn answer(built: Result<usize, Refusal>) -> u64 {
     match built {
         Ok(length) => (length as u64) << 32,
-        Err(Refusal(number, place)) => number | (place as u64) << 8,
+        Err(refusal) => refusal.packed(),
     }
 }
 
@@ -99,7 +100,7 @@ fn build(
     plan_heap(&mut plan, ends_with);
     let table = match room.get_mut(..plan.length) {
         Some(table) => table,
-        None => return Err(Refusal(21, 0)),
+        None => return refused(21, 0),
     };
     write_table(record, &plan, table);
     Ok(plan.length)
@@ -107,7 +108,7 @@ fn build(
 
 /// How many extra NICs and targets are given, once the size is right and the marks are.
 fn check_range(record: &[u8]) -> Result<(usize, usize), Refusal> {
-    let wrong = Err(Refusal(25, 0));
+    let wrong = refused(25, 0);
     let count = |at: usize| record.get(at).map_or(0, |count| usize::from(*count));
     let (nics, targets) = (count(RECORD), count(RECORD + 1));
     if record.len() != RECORD && record.len() != EXTRAS + 103 * nics + 59 * targets {
@@ -133,10 +134,10 @@ fn check_range(record: &[u8]) -> Result<(usize, usize), Refusal> {
 fn check_record<'a>(record: &[u8]) -> Result<Plan<'a>, Refusal> {
     let (nics, targets) = check_range(record)?;
     if !has_zero_tail(&record[..6]) {
-        return Err(Refusal(8, 10));
+        return refused(8, 10);
     }
     if !has_zero_tail(&record[6..14]) {
-        return Err(Refusal(8, 16));
+        return refused(8, 16);
     }
     let nothing = Slot {
         kind: &INITIATOR,
@@ -166,14 +167,14 @@ fn check_record<'a>(record: &[u8]) -> Result<Plan<'a>, Refusal> {
         let mut least = 2;
         for i in 0..count {
             if i == 6 {
-                return Err(Refusal(34, slot_count));
+                return refused(34, slot_count);
             }
             let index = record[image + 4];
             if index < 2 {
-                return Err(Refusal(13, slot_count));
+                return refused(13, slot_count);
             }
             if usize::from(index) < least {
-                return Err(Refusal(33, slot_count));
+                return refused(33, slot_count);
             }
             least = usize::from(index) + 1;
             slots[slot_count] = Slot {
@@ -189,7 +190,7 @@ fn check_record<'a>(record: &[u8]) -> Result<Plan<'a>, Refusal> {
         }
     }
     if record[FLAGS] & !1 != 0 {
-        return Err(Refusal(10, 255));
+        return refused(10, 255);
     }
     for (i, slot) in slots[..slot_count].iter().enumerate() {
         let image = &record[slot.image..slot.image + slot.kind.length];
@@ -197,10 +198,10 @@ fn check_record<'a>(record: &[u8]) -> Result<Plan<'a>, Refusal> {
             continue;
         }
         if image[5] & !slot.kind.named_flags != 0 {
-            return Err(Refusal(10, i));
+            return refused(10, i);
         }
         if slot.kind.id == 4 && image[32] > 2 {
-            return Err(Refusal(19, i));
+            return refused(19, i);
         }
     }
     Ok(Plan {
@@ -226,16 +227,16 @@ fn check_texts<'a>(record: &[u8], strings: &'a [u8], plan: &mut Plan<'a>) -> Res
                 let (size, start) = (word(record, at), word(record, at + 2));
                 let text = match strings.get(start..start + size) {
                     Some(text) => text,
-                    None => return Err(Refusal(24, n)),
+                    None => return refused(24, n),
                 };
                 if size > *longest {
-                    return Err(Refusal(17, n));
+                    return refused(17, n);
                 }
                 if text.contains(&0) {
-                    return Err(Refusal(20, n));
+                    return refused(20, n);
                 }
                 if slot.kind.id == 3 && !is_host_name(text) {
-                    return Err(Refusal(18, n));
+                    return refused(18, n);
                 }
                 plan.texts[n] = Some(text);
                 let is_secret = slot.kind.id == 4 && (i == 2 || i == 4);

@@ -54,26 +54,38 @@ struct Found {
     word: usize,
 }
 
-/// Number and place.
-pub struct Refusal(pub u64, pub usize);
+/// Number and place; with 6 the checksum byte that would be right.
+pub struct Refusal(u64, usize, u8);
+
+/// Any but 6.
+pub fn refused<T>(number: u64, place: usize) -> Result<T, Refusal> {
+    Err(Refusal(number, place, 0))
+}
+
+impl Refusal {
+    pub fn packed(self) -> u64 {
+        let Refusal(number, place, checksum) = self;
+        number | (place as u64) << 8 | u64::from(checksum) << 32
+    }
+}
 
 pub unsafe extern "C" fn rust_check(table: *const u8, size: usize) -> u64 {
     match check(std::slice::from_raw_parts(table, size)) {
         Ok(()) => 0,
-        Err(Refusal(number, place)) => number | (place as u64) << 8,
+        Err(refusal) => refusal.packed(),
     }
 }
 
 fn check(lent: &[u8]) -> Result<(), Refusal> {
     if lent.len() < HEADER {
-        return Err(Refusal(3, 0));
+        return refused(3, 0);
     }
     if !lent.starts_with(b"iBFT") {
-        return Err(Refusal(4, 0));
+        return refused(4, 0);
     }
     let length = u32::from_le_bytes(lent[4..8].try_into().unwrap()) as usize;
     if length < CONTROL_END || length > lent.len() {
-        return Err(Refusal(5, 4));
+        return refused(5, 4);
     }
     let table = &lent[..length];
     check_header(table)?;
@@ -109,29 +121,35 @@ pub fn has_zero_tail(field: &[u8]) -> bool {
     tail.all(|byte| *byte == 0)
 }
 
-fn check_header(table: &[u8]) -> Result<(), Refusal> {
-    if sum(table) != 0 {
-        return Err(Refusal(6, 9));
+/// Of a table that is cut to its Length.
+pub fn check_sum(table: &[u8]) -> Result<(), Refusal> {
+    match sum(table) {
+        0 => Ok(()),
+        sum => Err(Refusal(6, 9, table[9].wrapping_sub(sum))),
     }
+}
+
+fn check_header(table: &[u8]) -> Result<(), Refusal> {
+    check_sum(table)?;
     if table[8] != 1 {
-        return Err(Refusal(7, 8));
+        return refused(7, 8);
     }
     if !has_zero_tail(&table[10..16]) {
-        return Err(Refusal(8, 10));
+        return refused(8, 10);
     }
     if !has_zero_tail(&table[16..24]) {
-        return Err(Refusal(8, 16));
+        return refused(8, 16);
     }
     let size = word(table, CONTROL + 2);
     let is_control = table[CONTROL..CONTROL + 2] == [1, 1] && table[CONTROL + 4] == 0;
     if !is_control || !(18..=42).contains(&size) || size % 2 != 0 || CONTROL + size > table.len() {
-        return Err(Refusal(9, CONTROL));
+        return refused(9, CONTROL);
     }
     if table[CONTROL + 5] & !1 != 0 {
-        return Err(Refusal(10, CONTROL + 5));
+        return refused(10, CONTROL + 5);
     }
     if word(table, CONTROL + 6) != 0 {
-        return Err(Refusal(11, CONTROL + 6));
+        return refused(11, CONTROL + 6);
     }
     Ok(())
 }
@@ -146,7 +164,7 @@ fn check_structure(
     let named = NAMED.get((at - WORDS) / 2);
     let least = named.map_or(6, |(kind, _)| kind.length);
     if start % 8 != 0 || start < control_end || start + least > table.len() {
-        return Err(Refusal(12, at));
+        return refused(12, at);
     }
     let bytes = &table[start..];
     let (kind, index) = match named {
@@ -157,16 +175,16 @@ fn check_structure(
     let right =
         bytes[0] == kind.id && bytes[1] == 1 && word(bytes, 2) == kind.length && bytes[4] == index;
     if !right {
-        return Err(Refusal(13, start));
+        return refused(13, start);
     }
     if named.is_none() {
         check_extra(table, before, kind, index, start, at)?;
     }
     if bytes[5] & !kind.named_flags != 0 {
-        return Err(Refusal(10, start + 5));
+        return refused(10, start + 5);
     }
     if kind.id == 4 && bytes[32] > 2 {
-        return Err(Refusal(19, start + 32));
+        return refused(19, start + 32);
     }
     Ok(Found {
         kind,
@@ -185,16 +203,16 @@ fn check_extra(
     at: usize,
 ) -> Result<(), Refusal> {
     if start + kind.length > table.len() {
-        return Err(Refusal(12, at));
+        return refused(12, at);
     }
     let alike = before
         .iter()
         .filter(|found| found.word >= CONTROL_END && found.kind.id == kind.id);
     if alike.clone().any(|found| found.index == index) {
-        return Err(Refusal(33, at));
+        return refused(33, at);
     }
     if alike.count() >= 6 {
-        return Err(Refusal(34, at));
+        return refused(34, at);
     }
     Ok(())
 }
@@ -205,7 +223,7 @@ fn check_sharing(found: &[Found]) -> Result<(), Refusal> {
     };
     for (i, later) in found.iter().enumerate() {
         if found[..i].iter().any(|earlier| overlap(earlier, later)) {
-            return Err(Refusal(14, later.word));
+            return refused(14, later.word);
         }
     }
     Ok(())
@@ -235,16 +253,16 @@ fn check_entry(
         return Ok(());
     }
     if offset < heap || end > table.len() {
-        return Err(Refusal(15, field));
+        return refused(15, field);
     }
     if table.get(end) != Some(&0) {
-        return Err(Refusal(16, field));
+        return refused(16, field);
     }
     if size > longest {
-        return Err(Refusal(17, field));
+        return refused(17, field);
     }
     if kind.id == 3 && !is_host_name(&table[offset..end]) {
-        return Err(Refusal(18, field));
+        return refused(18, field);
     }
     Ok(())
 }

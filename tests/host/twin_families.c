@@ -38,6 +38,8 @@ static uint64_t check_oem(const uint8_t *table)
 static uint64_t check_header(const uint8_t *table, size_t size, const char *signature, uint32_t least,
                              uint32_t *length)
 {
+    uint64_t answer;
+
     if (size < least)
         return refused(3, 0);
     if (memcmp(table, signature, 4) != 0)
@@ -45,8 +47,9 @@ static uint64_t check_header(const uint8_t *table, size_t size, const char *sign
     memcpy(length, table + 4, sizeof *length);
     if (*length < least || *length > size)
         return refused(5, 4);
-    if (c_sum(table, *length) != 0)
-        return refused(6, 9);
+    answer = c_check_sum(table, *length);
+    if (answer != 0)
+        return answer;
     if (table[8] != 1)
         return refused(7, 8);
     return check_oem(table);

@@ -1,7 +1,7 @@
 //! Check and write of an aBFT and an sBFT as one would write them in Rust, for the benchmark. They are called
 //! through C's types, as the library is.
 
-use crate::twin_check::{has_zero_tail, word, Refusal};
+use crate::twin_check::{check_sum, has_zero_tail, refused, word, Refusal};
 use crate::twins::sum;
 
 const ABFT_SIZE: usize = 46;
@@ -43,35 +43,33 @@ pub unsafe extern "C" fn rust_sbft_write(
 fn packed(verdict: Result<(), Refusal>) -> u64 {
     match verdict {
         Ok(()) => 0,
-        Err(Refusal(number, place)) => number | (place as u64) << 8,
+        Err(refusal) => refusal.packed(),
     }
 }
 
 fn written(answer: Result<usize, Refusal>) -> u64 {
     match answer {
         Ok(length) => (length as u64) << 32,
-        Err(refusal) => packed(Err(refusal)),
+        Err(refusal) => refusal.packed(),
     }
 }
 
 /// The table, cut to its Length.
 fn check_header<'a>(lent: &'a [u8], signature: &[u8; 4], least: usize) -> Result<&'a [u8], Refusal> {
     if lent.len() < least {
-        return Err(Refusal(3, 0));
+        return refused(3, 0);
     }
     if !lent.starts_with(signature) {
-        return Err(Refusal(4, 0));
+        return refused(4, 0);
     }
     let length = u32::from_le_bytes(lent[4..8].try_into().unwrap()) as usize;
     if length < least || length > lent.len() {
-        return Err(Refusal(5, 4));
+        return refused(5, 4);
     }
     let table = &lent[..length];
-    if sum(table) != 0 {
-        return Err(Refusal(6, 9));
-    }
+    check_sum(table)?;
     if table[8] != 1 {
-        return Err(Refusal(7, 8));
+        return refused(7, 8);
     }
     check_oem(table)?;
     Ok(table)
@@ -79,17 +77,17 @@ fn check_header<'a>(lent: &'a [u8], signature: &[u8; 4], least: usize) -> Result
 
 fn check_oem(table: &[u8]) -> Result<(), Refusal> {
     if !has_zero_tail(&table[10..16]) {
-        return Err(Refusal(8, 10));
+        return refused(8, 10);
     }
     if !has_zero_tail(&table[16..24]) {
-        return Err(Refusal(8, 16));
+        return refused(8, 16);
     }
     Ok(())
 }
 
 fn check_reserved(table: &[u8], first: usize, end: usize) -> Result<(), Refusal> {
     match table[first..end].iter().position(|byte| *byte != 0) {
-        Some(at) => Err(Refusal(30, first + at)),
+        Some(at) => refused(30, first + at),
         None => Ok(()),
     }
 }
@@ -109,14 +107,14 @@ fn sbft_check(lent: &[u8]) -> Result<(), Refusal> {
     for (part, (at, size)) in PARTS.iter().enumerate() {
         let outside = starts[part] < SBFT_START || starts[part] + size > table.len();
         if outside && !is_absent(part) {
-            return Err(Refusal(31, *at));
+            return refused(31, *at);
         }
     }
     for (part, (at, size)) in PARTS.iter().enumerate() {
         let end = starts[part] + size;
         let overlaps = |other: usize| starts[other] < end && starts[part] < starts[other] + PARTS[other].1;
         if !is_absent(part) && (0..part).any(overlaps) {
-            return Err(Refusal(32, *at));
+            return refused(32, *at);
         }
     }
     if is_absent(2) {
@@ -137,7 +135,7 @@ fn filled<const SIZE: usize>(image: &[u8]) -> [u8; SIZE] {
 fn seal(table: &mut [u8], signature: &[u8; 4], room: &mut [u8]) -> Result<usize, Refusal> {
     let length = table.len();
     if length > room.len() {
-        return Err(Refusal(21, 0));
+        return refused(21, 0);
     }
     table[..4].copy_from_slice(signature);
     table[4..8].copy_from_slice(&(length as u32).to_le_bytes());

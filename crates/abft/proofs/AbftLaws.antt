@@ -11,6 +11,7 @@ use Prim.Native.Nat.{ℕ, _+_, _*_, _≤_, _<_}
 use native.Mathlib.Omega.{arith}
 use lib.ListN.{length, take, drop, length-set}
 use Rattle.octets.specs.Octets.{byte, word16, bytesPast, bytesAt, zeros, checksum, write}
+use Rattle.octets.specs.Promises.{ChecksumByte}
 use Rattle.octets.proofs.LiesLaws.{lies-front, lies-middle}
 use Rattle.octets.proofs.ReadLaws.{length-bytesPast}
 use Rattle.octets.proofs.WriteLaws.{write-halves}
@@ -23,7 +24,7 @@ use Rattle.table_header.specs.declared.verdict.Verdict.the-variants.{Accepted, 
 use Rattle.table_header.specs.declared.write.Written.{Written}
 use Rattle.table_header.proofs.VerdictLaws.{append-accepted}
 use Rattle.table_header.proofs.HeaderLaws.{reserved-zeros}
-use Rattle.table_header.proofs.SealedLaws.{Sealed, length-back, oem-id-back, oem-table-id-back, behind-byte, behind-lies, behind-bytes, header-passes}
+use Rattle.table_header.proofs.SealedLaws.{Sealed, length-back, oem-id-back, oem-table-id-back, behind-byte, behind-lies, behind-bytes, header-passes, sealed-stands}
 use Rattle.table_header.proofs.WriteLaws.{behind-put, sealed-put, write-accepted, room-kept, room-filled, writes}
 use Rattle.abft.specs.Abft.{checkTests, checkOf, recordOf, tableOf, writeVerdict, writtenOf, roomAfter}
 use Rattle.abft.specs.Promises.{Write}
@@ -104,11 +105,15 @@ table-length : (image : List ℕ) → length (tableOf image) ≡ abft .least
 unfolding tableOf sealed
 table-length image = length-set (bare image) 9 (checksum (bare image) 9) ∙ bare-length image
 
+checksum-stands : (image : List ℕ) → ChecksumByte (tableOf image) 9 (byte (tableOf image) 9)
+unfolding tableOf
+checksum-stands image = sealed-stands _ (omega (arith, table-length image))
+
 module _ (image before : List ℕ) (v : Verdict) (judged : v ≡ writeVerdict image (length before)) where
   promise : (answer : Written) (after : List ℕ) → answer ≡ writtenFrom (abft .least) v → after ≡ roomFrom (tableOf image) before v → Write image before answer after
   unfolding writtenOf roomAfter writeVerdict
   promise =
-      writes checkOf recordOf (recordOf image) (bytesAt image 10 6) (bytesAt image 16 8) (tableOf image) before (abft .least) (table-length image) (length-is image)
+      writes checkOf recordOf (recordOf image) (bytesAt image 10 6) (bytesAt image 16 8) (tableOf image) before (abft .least) (table-length image) (checksum-stands image) (length-is image)
       (λ id tableId rest. record { passes = passes image rest id tableId; reads-back = reads-back image rest }) v judged
 
   pub promise-refused : (answer : Written) (r : Refusal) → v ≡ Refused r → answer ≡ writtenFrom (abft .least) v → Write image before answer before

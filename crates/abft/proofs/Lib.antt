@@ -1,3 +1,4 @@
 pub mod AbftLaws
+pub mod CheckLaws
 pub mod PlaceLaws
 pub mod ReadingLaws

@@ -5,14 +5,14 @@ use native.Mathlib.Nat.{add-mul-mod-self-left, mod-eq-of-lt}
 use native.Mathlib.Omega.{arith}
 use Rattle.bootfw.specs.Pack.{pack, Packs}
 
-pub packs : (number place length r : ℕ) → number < 2 ^ 8 → place < 2 ^ 24 → r ≡ number + 256 * place + 4294967296 * length
-    → Packs number place length r
+pub packs : (number place upper r : ℕ) → number < 2 ^ 8 → place < 2 ^ 24 → r ≡ number + 256 * place + 4294967296 * upper
+    → Packs number place upper r
 unfolding pack
-packs number place length r n p e =
-    let upper : r / 256 ≡ place + 16777216 * length = omega arith in
+packs number place upper r n p e =
+    let above : r / 256 ≡ place + 16777216 * upper = omega arith in
     record {
       packed = e;
       number-back = omega arith;
-      place-back = ap (λ (x : ℕ). x % 16777216) upper ∙ add-mul-mod-self-left place 16777216 length ∙ mod-eq-of-lt p;
-      length-back = omega arith;
+      place-back = ap (λ (x : ℕ). x % 16777216) above ∙ add-mul-mod-self-left place 16777216 upper ∙ mod-eq-of-lt p;
+      upper-back = omega arith;
     }

@@ -5,7 +5,7 @@
 --     header-lies, control-lies, structure-lies, heap-lies                where a piece stands
 --     oem-id-lies, oem-table-id-lies, start-word-lies                     what stands in header and Control
 --     body-lies, words-lie                                                and in a structure
---     table-sums                                                          the table sums to 0 modulo 256
+--     table-sums, table-stands                                            the sum is 0, the checksum byte stands at 9
 -- Assumes nothing.
 use mathlib.Core.Path.{_≡_, refl, sym, ap, _∙_, subst}
 use mathlib.Core.List.{List, [], _∷_, _++_, append-assoc}
@@ -16,9 +16,10 @@ use lib.ListN.{length, length-append, length-set}
 use mathlib.Core.Bool.{Bool, true, false, cond}
 use Rattle.octets.specs.Counting.{count, gather}
 use Rattle.octets.proofs.CountLaws.{count-last, count-none}
-use Rattle.octets.specs.Octets.{le16, le32, zeros, sum, checksum}
+use Rattle.octets.specs.Octets.{byte, le16, le32, zeros, sum, checksum}
 use Rattle.octets.proofs.LiesLaws.{Lies, lies-front, lies-last, lies-middle, lies-behind, lies-within, gather-length, gather-lies, gather-ends}
-use Rattle.octets.proofs.SumLaws.{checksum-sums}
+use Rattle.octets.specs.Promises.{ChecksumByte}
+use Rattle.octets.proofs.SumLaws.{checksum-sums, checksum-put}
 use Rattle.octets.proofs.WriteLaws.{length-zeros}
 use Rattle.string_heap.specs.Stored.{heapSize}
 use Rattle.string_heap.specs.Places.{heapTo}
@@ -283,3 +284,7 @@ module _ (c : Content) (good : Good c) where
   pub table-sums : sum (tableOf c) % 256 ≡ 0
   unfolding tableOf
   table-sums = checksum-sums (bareTable c) 9 (omega (arith, bare-length, length-least c))
+
+  pub table-stands : ChecksumByte (tableOf c) 9 (byte (tableOf c) 9)
+  unfolding tableOf
+  table-stands = checksum-put (bareTable c) 9 (omega (arith, bare-length, length-least c))

@@ -26,7 +26,10 @@ use Rattle.ibft_table.specs.Record.{Record, Content, listed, contentOf, recordO
 use Rattle.table_header.specs.declared.verdict.Refusal.{Refusal}
 use Rattle.table_header.specs.declared.verdict.Verdict.{Verdict}
 use Rattle.table_header.specs.declared.verdict.Verdict.the-variants.{Accepted, Refused}
-use Rattle.table_header.proofs.VerdictLaws.{accepted-not-refused, accept-none, accept-cons, passes, append-accepted, append-refused, append-same, gather-passes, gather-accepts}
+use Rattle.table_header.specs.Promises.{ReturnsChecksum}
+use Rattle.table_header.proofs.VerdictLaws.{accepted-not-refused, accept-none, accept-cons, passes, append-accepted, append-refused, append-same, gather-passes, gather-accepts, every-none, every-append, every-gather}
+use Rattle.table_header.proofs.JudgesLaws.{test-plain, plain-returns, verdict-returns}
+use Rattle.ibft_table.proofs.CheckLaws.{ibft-returns}
 use Rattle.ibft_laws.proofs.PlaceLaws.{check-numbered, place-below}
 use Rattle.ibft_laws.proofs.RecordLaws.{table-holds-same, table-entry-same}
 use Rattle.build_rules.specs.RecordRange.{contentGiven, recordGiven}
@@ -242,6 +245,7 @@ module _ (t : List ℕ) (e : Refusal) (told : checkOf t ≡ Refused e) where
     answer-is = sym (ap (rebuildFrom t) (verdict-refused (length before)));
     room-is = sym (ap (rebuiltFrom t before) (verdict-refused (length before)));
     refused = λ h. (refl, refl);
+    checksum = ibft-returns t e told;
     accepted = λ z. absurd (check-numbered t e told z);
     room = λ ok. accepted-not-refused ok told;
     settles = λ z. absurd (check-numbered t e told z);
@@ -255,6 +259,22 @@ module _ (t before : List ℕ) (ok : checkOf t ≡ Accepted) where
   after : List ℕ
   after = rebuildRoom t before
 
+  -- what comes behind the check has no checksum byte
+  refusal-is : (v : Verdict) → refusalOf v ≡ (rebuildFrom t v) .refusal
+  unfolding rebuildFrom refusalOf
+  refusal-is Accepted = refl
+  refusal-is (Refused e) = refl
+
+  checksum-none : (n : ℕ) → ReturnsChecksum t ((rebuildAnswer t n) .refusal)
+  unfolding rebuildAnswer rebuildVerdict zeroTests checkOf
+  checksum-none n =
+      subst (ReturnsChecksum t) (refusal-is (rebuildVerdict t n))
+      (verdict-returns t (rebuildVerdict t n)
+      (λ r e. plain-returns t
+      (every-append (every-gather (zeroTests (startsOf t) t) entryCount 0 (λ i h. test-plain _ _ _ _ (λ z. omega arith) every-none))
+      (test-plain _ _ _ _ (λ z. omega arith) every-none)) r
+      (sym (append-accepted (checkTests t) _ ok) ∙ e)))
+
   accepts : Rebuild t before answer after
   unfolding answer after
   accepts =
@@ -265,6 +285,7 @@ module _ (t before : List ℕ) (ok : checkOf t ≡ Accepted) where
         answer-is = refl;
         room-is = refl;
         refused = p .refused;
+        checksum = checksum-none (length before);
         accepted = served;
         room = λ _ clean. subst (λ (c : Record). Room c (length before) (answer .refusal .number)) (record-range t ok) (p .room (clean-accepted t (rangeOf t) t ok (told t ok) clean));
         settles = λ z room enough.

@@ -11,6 +11,7 @@ use Rattle.octets.specs.Octets.{byte, part}
 use Rattle.ibft_table.specs.Layout.{slotCount, entryCount, extraMost, extraNics, kindOf, nicSlot, targetSlot, firstEntry, slotAt, slotNumber, entryAt, entryNumber}
 use Rattle.ibft_table.specs.Record.{Record, bodySize}
 use Rattle.ibft_table.specs.Readings.{headerOf, structureOf, structureViewOf, initiatorOf, nicOf, targetOf, entryOf, viewOf}
+use Rattle.table_header.specs.Verdict.{refusal, accepted}
 use Rattle.table_header.specs.declared.verdict.Refusal.{Refusal}
 use Rattle.ibft_table.specs.declared.text.Text.{Text}
 use Rattle.ibft_table.specs.declared.entry.EntryReading.{EntryReading}
@@ -41,12 +42,9 @@ entryHeldAt c number = entryAt (nicsHeld c) number
 abbrev pub stringNumber : Record → ℕ → ℕ → ℕ
 stringNumber c k j = entryNumber (nicsHeld c) (firstEntry k + j)
 
--- what an accepted reading returns; what the reading of something missing returns
-abbrev pub accepted : Refusal
-accepted = record { number = 0; place = 0 }
-
+-- what the reading of something missing returns
 abbrev pub missing : Refusal
-missing = record { number = 22; place = 0 }
+missing = refusal 22 0
 
 -- A reading with this refusal shows what the record holds, read as `from` reads it: the record holds none, and the reading is
 -- refused with 22; or it holds these bytes, be they empty, and the reading is accepted and shows them.

@@ -8,6 +8,7 @@ use lib.ListN.{length, take}
 use Rattle.ibft_table.specs.Layout.{entryCount}
 use Rattle.ibft_table.specs.Check.{checkOf}
 use Rattle.ibft_table.specs.Record.{recordOf}
+use Rattle.table_header.specs.Promises.{ReturnsChecksum}
 use Rattle.table_header.specs.declared.verdict.Verdict.the-variants.{Accepted}
 use Rattle.build_rules.specs.RecordRange.{contentGiven, recordGiven}
 use Rattle.build_rules.specs.Refusals.{contentsVerdict}
@@ -49,6 +50,8 @@ pub record Rebuild (t before : List ℕ) (answer : Built) (after : List ℕ) : T
   pub room-is : after ≡ rebuildRoom t before
   -- refused: Length 0, the room untouched
   pub refused : (answer .refusal .number ≡ 0 → ⊥) → (answer .length ≡ 0) × (after ≡ before)
+  -- the checksum byte that it returns is that of t with 6, else 0
+  pub checksum : ReturnsChecksum t (answer .refusal)
   -- accepted: it serves the record of t, stands alone in the room, and is the shortest
   pub accepted : answer .refusal .number ≡ 0 → Accepts (recordOf t) before (answer .length) after
   -- a table that is accepted and holds no zero byte in a string: whatever room is lent, 21 or accepted, as the least Length says

@@ -40,6 +40,9 @@ use record_text::fields::TARGET_FLAGS;
 use record_text::fields::field_at;
 use record_text::fields::plain_count;
 use record_text::fields::put_name;
+use refusal_text::LINE_SIZE;
+use refusal_text::put_refusal;
+use table_header::verdict::Refusal;
 use table_header::write::Written;
 ghost use Prim.Native.Nat.{_≤_};
 
@@ -278,17 +281,10 @@ fn say_words(range: &[u8], number: u8, place: u32) {
     }
 }
 
-fn say_number_and_place(number: u8, place: u32) {
-    say(b"refused ");
-    say_number(number as u64);
-    say(b" ");
-    say_number(place as u64);
-    say(b"\n");
-}
-
-fn say_refusal(range: &[u8], number: u8, place: u32) {
-    say_number_and_place(number, place);
-    say_words(range, number, place);
+fn say_refusal(refusal: Refusal) {
+    let mut room = [0u8; LINE_SIZE];
+    let end = put_refusal(&mut room, 0, refusal);
+    say(part(&room, 0, end));
 }
 
 // Builds the record's table and writes it. (No table has more than 13,710 bytes.)
@@ -297,7 +293,8 @@ fn write_table(range: &[u8], strings: &[u8]) {
     let built = build(range, strings, &mut room);
     let refusal = built.refusal;
     if refusal.number != 0 {
-        say_refusal(range, refusal.number, refusal.place);
+        say_refusal(refusal);
+        say_words(range, refusal.number, refusal.place);
         return;
     }
     io::write_all(STDOUT, part(&room, 0, built.length as usize));
@@ -385,7 +382,7 @@ fn write_family(family: u8, image: &[u8]) {
     let written = write_image(family, image, &mut room);
     let refusal = written.refusal;
     if refusal.number != 0 {
-        say_number_and_place(refusal.number, refusal.place);
+        say_refusal(refusal);
         say_oem(refusal.place);
         return;
     }

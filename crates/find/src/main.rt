@@ -6,10 +6,13 @@
 use notation::number::Number;
 use notation::number::read_number;
 use octets::read::part;
+use refusal_text::LINE_SIZE;
+use refusal_text::put_refusal;
 use scan::Family;
 use scan::Scanned;
 use scan::scan_for;
 use scan::table_for;
+use table_header::verdict::Refusal;
 use text::split::same;
 ghost use mathlib.Core.Path.{_≡_};
 ghost use Prim.Native.Nat.{ℕ, _+_, _^_, _≤_, _<_};
@@ -64,9 +67,17 @@ fn print_family(n: u8) {
 }
 
 fn print_refusal(fd: i32, number: u8) {
-    io::write_all(fd, b"refused ");
-    io::print_decimal(fd, number as u64);
-    io::write_all(fd, b" 0\n");
+    let mut room = [0u8; LINE_SIZE];
+    let end = put_refusal(
+        &mut room,
+        0,
+        Refusal {
+            number,
+            place: 0,
+            checksum: 0,
+        },
+    );
+    io::write_all(fd, part(&room, 0, end));
 }
 
 fn print_found(n: u8, s: Scanned) {

@@ -8,7 +8,7 @@ use mathlib.Core.List.{List, _++_}
 use Prim.Native.Nat.{ℕ, _≤_, _<_}
 use lib.ListN.{length, drop}
 use borrow.Author.Tests.{lt-ltb, le-ltb}
-use Rattle.table_header.specs.Verdict.{refusalOf}
+use Rattle.table_header.specs.Verdict.{refusal, accepted, refusalOf}
 use Rattle.table_header.specs.declared.verdict.Refusal.{Refusal}
 use Rattle.table_header.specs.declared.verdict.Verdict.{Verdict}
 use Rattle.table_header.specs.declared.verdict.Verdict.the-variants.{Accepted, Refused}
@@ -34,19 +34,19 @@ module _ (r s room : List ℕ) where
 
   module _ (p : contentsVerdict r s ≡ Accepted) where
     pub ends-want : length room < lengthBuilt (contentGiven r s)
-        → Ends r s room (record { refusal = record { number = 21; place = 0 }; length = 0 }) room
+        → Ends r s room (record { refusal = refusal 21 0; length = 0 }) room
     unfolding contentsVerdict buildVerdict answerFrom roomFrom
     ends-want h =
-        ends (Refused (record { number = 21; place = 0 })) _ _
+        ends (Refused (refusal 21 0)) _ _
         (append-accepted (contentsTests r s) _ p ∙ fail-cons _ _ (lt-ltb (length room) (lengthBuilt (contentGiven r s)) h)) refl refl
 
     pub ends-built : (n : ℕ) (after : List ℕ) → n ≡ lengthBuilt (contentGiven r s) → n ≤ length room
         → after ≡ tableOf (contentGiven r s) ++ drop (lengthBuilt (contentGiven r s)) room
-        → Ends r s room (record { refusal = record { number = 0; place = 0 }; length = n }) after
+        → Ends r s room (record { refusal = accepted; length = n }) after
     unfolding contentsVerdict buildVerdict answerFrom roomFrom refusalOf
     ends-built n after e h written =
         ends Accepted _ after
         (append-accepted (contentsTests r s) _ p
         ∙ accept-cons _ _ (le-ltb (length room) (lengthBuilt (contentGiven r s)) (rw (← e) h)) accept-none)
-        (ap (λ (m : ℕ). record { refusal = record { number = 0; place = 0 }; length = m }) e)
+        (ap (λ (m : ℕ). record { refusal = accepted; length = m }) e)
         written

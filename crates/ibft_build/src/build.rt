@@ -11,6 +11,7 @@ use crate::stored::wanted_sizes;
 use crate::write_table::put_table;
 use build_rules::Built;
 use ibft_table::layout::SLOT_COUNT;
+use table_header::verdict::ACCEPTED;
 use table_header::verdict::Refusal;
 use table_header::verdict::Verdict;
 ghost use mathlib.Core.Path.{_≡_};
@@ -36,6 +37,7 @@ fn build_contents(range: &[u8], strings: &[u8], room: &mut [u8]) -> Built
             refusal: Refusal {
                 number: 21,
                 place: 0,
+                checksum: 0,
             },
             length: 0,
         };
@@ -53,10 +55,7 @@ fn build_contents(range: &[u8], strings: &[u8], room: &mut [u8]) -> Built
         length,
     );
     Built {
-        refusal: Refusal {
-            number: 0,
-            place: 0,
-        },
+        refusal: ACCEPTED,
         length,
     }
 }

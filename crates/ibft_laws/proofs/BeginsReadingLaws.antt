@@ -11,7 +11,7 @@ use lib.ListN.{length, drop, length-drop}
 use Rattle.octets.specs.Octets.{part, bytesPast, bytesAt}
 use Rattle.octets.proofs.ReadLaws.{bytes-part, part-from}
 use Rattle.ibft_table.specs.Layout.{Kind, initiator, nic, target, slotCount, entryCount, kindOf, nicSlot, targetSlot}
-use Rattle.table_header.specs.Verdict.{refusalOf, shown}
+use Rattle.table_header.specs.Verdict.{accepted, refusalOf, shown}
 use Rattle.table_header.specs.Header.{lengthOf}
 use Rattle.ibft_table.specs.Table.{startsOf, startOf, present, sizeOf, offsetOf, holdsEntry}
 use Rattle.ibft_table.specs.Check.{checkOf}
@@ -65,7 +65,7 @@ module _ (t u : List ℕ) (ok : checkOf t ≡ Accepted) (like : Begins u t (leng
   begins-header =
       header-gives u ok′
       ∙ ap (λ (r : Record). record {
-        refusal = record { number = 0; place = 0 };
+        refusal = accepted;
         header = record { «oem_id» = r .oemId; «oem_table_id» = r .oemTableId; flags = r .flags };
       }) (begins-record t u ok like)
       ∙ sym (header-gives t ok)

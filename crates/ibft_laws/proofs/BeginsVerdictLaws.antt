@@ -15,10 +15,10 @@ use borrow.Author.Tests.{lt-ltb, le-ltb, ltb-false, leb-false}
 use lib.ListN.{length, take}
 use lib.Dec.{leb, ltb, eqb}
 use Rattle.octets.specs.Counting.{gather}
-use Rattle.octets.specs.Octets.{byte, sum, differs}
+use Rattle.octets.specs.Octets.{byte, sum, checksum, differs}
 use Rattle.hostname.specs.Hostname.{isHostName}
 use Rattle.ibft_table.specs.Layout.{Kind, control, nic, target, slotCount, entryCount, namedCount, extraMost, mostWords, leastIndex, kindOf, ownerOf, stringOf, controlAt, extensionsAt, chapAt}
-use Rattle.table_header.specs.Verdict.{Test, firstOf}
+use Rattle.table_header.specs.Verdict.{Test, refusal, firstOf}
 use Rattle.table_header.specs.Header.{lengthOf, padded, headerTests}
 use Rattle.ibft_table.specs.Table.{controlEndOf, wordCount, startAt, usedAt, kindAt, indexAt, endAt, heapOf, alike, extraWords, startsOf, startIn, presentIn, endIn, startOf, present, endOf, sizeOf, offsetOf, holdsEntry}
 use Rattle.ibft_table.specs.Check.{alien, reservedSet, alienControl, controlTests, misplaced, namedTests, twin, extraTests, flagTests, wordTests, overlap, overlapTests, entryTests, checkTests, checkOf}
@@ -87,11 +87,13 @@ module _ (t u : List ℕ) (least : 66 ≤ lengthOf t) (whole : lengthOf t ≤ le
       let lent : ltb (length u) 48 ≡ ltb (length t) 48 = le-ltb (length u) 48 (omega arith) ∙ sym (le-ltb (length t) 48 (omega arith)) in
       let there : ltb (length u) (lengthOf u) ≡ ltb (length t) (lengthOf t) =
       le-ltb (length u) (lengthOf u) (omega arith) ∙ sym (le-ltb (length t) (lengthOf t) whole) in
+      let summed : take (lengthOf u) u ≡ take (lengthOf t) t = ap (λ (l : ℕ). take l u) len ∙ like .same in
       cons-same _ _ _ _ lent refl
       (λ e1. cons-same _ _ _ _ (ap (λ (w : ℕ). differs w 0x54464269) (word32-same u t (lengthOf t) like 0 (omega arith))) refl
       (λ e2. cons-same _ _ _ _ (ap (λ (l : ℕ). ltb l 66) len) refl
       (λ e3. cons-same _ _ _ _ there refl
-      (λ e4. cons-same _ _ _ _ (ap (λ (l : ℕ). differs (sum (take l u) % 256) 0) len ∙ ap (λ (x : List ℕ). differs (sum x % 256) 0) (like .same)) refl
+      (λ e4. cons-same _ _ _ _ (ap (λ (x : List ℕ). differs (sum x % 256) 0) summed)
+      (ap (λ (x : List ℕ). record { number = 6; place = 9; checksum = checksum x 9 }) summed)
       (λ e5. cons-same _ _ _ _ (ap (λ (b : ℕ). differs b 1) (byte-is 8 (omega arith))) refl
       (λ e6. cons-same _ _ _ _ (ap (λ (x : List ℕ). not (padded x)) (part-same u t (lengthOf t) like 10 6 (omega arith))) refl
       (λ e7. cons-same _ _ _ _ (ap (λ (x : List ℕ). not (padded x)) (part-same u t (lengthOf t) like 16 8 (omega arith))) refl (λ e8. refl))))))))
@@ -166,7 +168,7 @@ module _ (t u : List ℕ) (least : 66 ≤ lengthOf t) (whole : lengthOf t ≤ le
           refl
           (λ e1.
           let six = six-inside w (placed-facts t w ((kindAt t w) .length) e1 .2) in
-          cons-same _ _ _ _ (alien-at six) (ap (λ (s : ℕ). record { number = 13; place = s }) start) (λ e2. refl))
+          cons-same _ _ _ _ (alien-at six) (ap (refusal 13) start) (λ e2. refl))
 
       extra-same : ((v : ℕ) → v < w → usedAt t v ≡ true → startAt t v + 6 ≤ lengthOf t) → firstOf (extraTests u w) ≡ firstOf (extraTests t w)
       unfolding extraTests twin
@@ -176,7 +178,7 @@ module _ (t u : List ℕ) (least : 66 ≤ lengthOf t) (whole : lengthOf t ≤ le
           let six = placed-facts t w 6 e1 .2 in
           cons-same _ _ _ _
           (ap₂ _||_ (alien-at six) (ap (λ (i : ℕ). ltb i leastIndex) (index-same t u (lengthOf t) least like inside w h six)))
-          (ap (λ (s : ℕ). record { number = 13; place = s }) start)
+          (ap (refusal 13) start)
           (λ e2. cons-same _ _ _ _ (ap₂ ltb (length-same t u (lengthOf t) least like) (end-same t u (lengthOf t) least like inside w h six)) refl
           (λ e3. cons-same _ _ _ _
           (any-same w (twin u w) (twin t w) (λ v l. index-test-same t u (lengthOf t) least like inside w (omega arith) early eqb w v l h six))
@@ -200,10 +202,10 @@ module _ (t u : List ℕ) (least : 66 ≤ lengthOf t) (whole : lengthOf t ≤ le
           let six = six-inside w whole in
           let kind = kind-same t u (lengthOf t) least like inside w h six in
           let flag : byte u (startAt u w + 5) ≡ byte t (startAt t w + 5) = ap (λ (s : ℕ). byte u (s + 5)) start ∙ byte-is (startAt t w + 5) (omega arith) in
-          cons-same _ _ _ _ (ap₂ reservedSet flag kind) (ap (λ (s : ℕ). record { number = 10; place = s + 5 }) start)
+          cons-same _ _ _ _ (ap₂ reservedSet flag kind) (ap (λ (s : ℕ). refusal 10 (s + 5)) start)
           (λ e1. cons-same _ _ _ _
           (ap (λ (k : Kind). k .chap && ltb 2 (byte u (startAt u w + chapAt))) kind ∙ has ((kindAt t w) .chap) refl)
-          (ap (λ (s : ℕ). record { number = 19; place = s + chapAt }) start)
+          (ap (λ (s : ℕ). refusal 19 (s + chapAt)) start)
           (λ e2. refl))
         where
           has : (b : Bool) → (kindAt t w) .chap ≡ b
@@ -273,19 +275,19 @@ module _ (t u : List ℕ) (least : 66 ≤ lengthOf t) (whole : lengthOf t ≤ le
               let end : offsetOf u n + sizeOf u n ≡ offsetOf t n + sizeOf t n = ap₂ _+_ offset size in
               let field = field-same t u (lengthOf t) least like starts n h in
               rw (holds-same t u (lengthOf t) least like starts n h owned, on)
-              (cons-same _ _ _ _ (ap₂ ltb offset heap) (ap (λ (f : ℕ). record { number = 15; place = f }) field)
-              (λ e1. cons-same _ _ _ _ (ap₂ ltb len end) (ap (λ (f : ℕ). record { number = 15; place = f }) field)
-              (λ e2. cons-same _ _ _ _ (ap₂ (λ (s o : ℕ). differs s 0 && eqb o 0) size offset) (ap (λ (f : ℕ). record { number = 15; place = f }) field)
-              (λ e3. cons-same _ _ _ _ (ap₂ leb len end) (ap (λ (f : ℕ). record { number = 16; place = f }) field)
+              (cons-same _ _ _ _ (ap₂ ltb offset heap) (ap (refusal 15) field)
+              (λ e1. cons-same _ _ _ _ (ap₂ ltb len end) (ap (refusal 15) field)
+              (λ e2. cons-same _ _ _ _ (ap₂ (λ (s o : ℕ). differs s 0 && eqb o 0) size offset) (ap (refusal 15) field)
+              (λ e3. cons-same _ _ _ _ (ap₂ leb len end) (ap (refusal 16) field)
               (λ e4.
               let below = leb-false (lengthOf t) (offsetOf t n + sizeOf t n) e4 in
               cons-same _ _ _ _
               (ap (λ (i : ℕ). differs (byte u i) 0) end ∙ ap (λ (b : ℕ). differs b 0) (byte-is (offsetOf t n + sizeOf t n) below))
-              (ap (λ (f : ℕ). record { number = 16; place = f }) field)
-              (λ e5. cons-same _ _ _ _ (ap (ltb ((stringOf n) .longest)) size) (ap (λ (f : ℕ). record { number = 17; place = f }) field)
+              (ap (refusal 16) field)
+              (λ e5. cons-same _ _ _ _ (ap (ltb ((stringOf n) .longest)) size) (ap (refusal 17) field)
               (λ e6. cons-same _ _ _ _
               (ap (λ (x : List ℕ). (stringOf n) .host && not (isHostName x)) (entry-bytes-same t u (lengthOf t) least like starts n h own (omega arith)))
-              (ap (λ (f : ℕ). record { number = 18; place = f }) field)
+              (ap (refusal 18) field)
               (λ e7. refl))))))))
 
   -- ---- all of it

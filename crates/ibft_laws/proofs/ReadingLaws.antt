@@ -25,7 +25,7 @@ use Rattle.octets.specs.Octets.{byte, word16, part, differs}
 use Rattle.octets.proofs.ReadLaws.{bytes-part, part-from, part-at}
 use Rattle.octets.proofs.TestLaws.{and-other, or-both, differs-no}
 use Rattle.ibft_table.specs.Layout.{Kind, initiator, nic, target, slotCount, entryCount, kindOf, ownerOf, stringOf, nicSlot, targetSlot}
-use Rattle.table_header.specs.Verdict.{firstOf, refusalOf, shown}
+use Rattle.table_header.specs.Verdict.{refusal, accepted, firstOf, refusalOf, shown}
 use Rattle.ibft_table.specs.Table.{startsOf, indexIn, fieldIn, sizeIn, offsetIn, holdsIn, startOf, present, sizeOf, offsetOf, holdsEntry}
 use Rattle.ibft_table.specs.Check.{checkTests, checkOf}
 use Rattle.ibft_table.specs.Record.{Record, shownIf, bodySize, listed, contentIn, contentOf, recordOf}
@@ -115,11 +115,11 @@ module _ (t : List ℕ) (ok : checkOf t ≡ Accepted) where
     slot-verdict h on =
         append-accepted (checkTests t) _ tests-pass ∙ accept-cons _ _ (lt-leb slotCount number h) (accept-cons _ _ (ap not on) accept-none)
 
-    pub slot-missing : number < slotCount → present t k ≡ false → slotVerdict (startsOf t) t number k ≡ Refused (record { number = 22; place = 0 })
+    pub slot-missing : number < slotCount → present t k ≡ false → slotVerdict (startsOf t) t number k ≡ Refused (refusal 22 0)
     unfolding slotVerdict
     slot-missing h off = append-accepted (checkTests t) _ tests-pass ∙ pass-cons _ _ (lt-leb slotCount number h) ∙ fail-cons _ _ (ap not off)
 
-    pub slot-unknown : slotCount ≤ number → slotVerdict (startsOf t) t number k ≡ Refused (record { number = 23; place = 0 })
+    pub slot-unknown : slotCount ≤ number → slotVerdict (startsOf t) t number k ≡ Refused (refusal 23 0)
     unfolding slotVerdict
     slot-unknown h = append-accepted (checkTests t) _ tests-pass ∙ fail-cons _ _ (le-leb slotCount number h)
 
@@ -128,18 +128,18 @@ module _ (t : List ℕ) (ok : checkOf t ≡ Accepted) where
     entry-verdict h on =
         append-accepted (checkTests t) _ tests-pass ∙ accept-cons _ _ (lt-leb entryCount number h) (accept-cons _ _ (ap not on) accept-none)
 
-    pub entry-missing : number < entryCount → holdsEntry t k ≡ false → entryVerdict (startsOf t) t number k ≡ Refused (record { number = 22; place = 0 })
+    pub entry-missing : number < entryCount → holdsEntry t k ≡ false → entryVerdict (startsOf t) t number k ≡ Refused (refusal 22 0)
     unfolding entryVerdict
     entry-missing h off = append-accepted (checkTests t) _ tests-pass ∙ pass-cons _ _ (lt-leb entryCount number h) ∙ fail-cons _ _ (ap not off)
 
-    pub entry-unknown : entryCount ≤ number → entryVerdict (startsOf t) t number k ≡ Refused (record { number = 23; place = 0 })
+    pub entry-unknown : entryCount ≤ number → entryVerdict (startsOf t) t number k ≡ Refused (refusal 23 0)
     unfolding entryVerdict
     entry-unknown h = append-accepted (checkTests t) _ tests-pass ∙ fail-cons _ _ (le-leb entryCount number h)
 
   -- ---- the header
 
   pub header-gives : headerOf t ≡ record {
-    refusal = record { number = 0; place = 0 };
+    refusal = accepted;
     header = record { «oem_id» = (recordOf t) .oemId; «oem_table_id» = (recordOf t) .oemTableId; flags = (recordOf t) .flags };
   }
   unfolding headerOf headerIn recordOf listed contentOf contentIn shown refusalOf
@@ -229,7 +229,7 @@ module _ (t : List ℕ) (ok : checkOf t ≡ Accepted) where
           ∙ ap (λ (v : Verdict). shown v (part t (offsetOf t n) (sizeOf t n))) (entry-verdict number n l on)))
 
       -- its place: where the view stands, and how long it is
-      pub entry-place : entryOf t number ≡ record { refusal = record { number = 0; place = 0 }; offset = offsetOf t n; length = sizeOf t n }
+      pub entry-place : entryOf t number ≡ record { refusal = accepted; offset = offsetOf t n; length = sizeOf t n }
       unfolding entryOf entryGot entryFrom refusalOf
       entry-place =
           ap (λ (j : ℕ). entryFrom (startsOf t) t j (entryVerdict (startsOf t) t number j)) is
@@ -275,7 +275,7 @@ module _ (t : List ℕ) (ok : checkOf t ≡ Accepted) where
 
   -- and what is answered and shown of it where it is asked for by a number
   module _ (number k : ℕ) (l : number < slotCount) where
-    pub structure-absent : getD ((recordOf t) .structures) k none ≡ none → slotVerdict (startsOf t) t number k ≡ Refused (record { number = 22; place = 0 })
+    pub structure-absent : getD ((recordOf t) .structures) k none ≡ none → slotVerdict (startsOf t) t number k ≡ Refused (refusal 22 0)
     structure-absent e = slot-missing t ok number k l (shown-none (present t k) _ (sym (structure-is t k) ∙ e))
 
     module _ (body : List ℕ) (holds : getD ((recordOf t) .structures) k none ≡ some body) where
@@ -293,7 +293,7 @@ module _ (t : List ℕ) (ok : checkOf t ≡ Accepted) where
       module _ (is : slotCalled (startsOf t) number ≡ k) where
         -- its kind and start, and the record's Index and flags
         pub structure-gives : structureOf t number ≡ record {
-          refusal = record { number = 0; place = 0 };
+          refusal = accepted;
           id = (kindOf k) .id;
           index = getD ((recordOf t) .indices) k 0;
           start = startOf t k;
@@ -303,7 +303,7 @@ module _ (t : List ℕ) (ok : checkOf t ≡ Accepted) where
         structure-gives =
             ap (λ (j : ℕ). structureFrom (startsOf t) t j (slotVerdict (startsOf t) t number j)) is
             ∙ ap (structureFrom (startsOf t) t k) structure-there
-            ∙ ap₂ (λ (x f : ℕ). record { refusal = record { number = 0; place = 0 }; id = (kindOf k) .id; index = x; start = startOf t k; flags = f })
+            ∙ ap₂ (λ (x f : ℕ). record { refusal = accepted; id = (kindOf k) .id; index = x; start = startOf t k; flags = f })
             (structure-index k body holds)
             (structure-flags k body holds)
 
@@ -365,7 +365,7 @@ module _ (t : List ℕ) (ok : checkOf t ≡ Accepted) where
   entry-on n bytes holds = held-entry n bytes holds .0
 
   module _ (number n : ℕ) (l : number < entryCount) where
-    pub entry-absent : getD ((recordOf t) .entries) n none ≡ none → entryVerdict (startsOf t) t number n ≡ Refused (record { number = 22; place = 0 })
+    pub entry-absent : getD ((recordOf t) .entries) n none ≡ none → entryVerdict (startsOf t) t number n ≡ Refused (refusal 22 0)
     entry-absent e = entry-missing t ok number n l (shown-none (holdsEntry t n) _ (sym (entry-is t n) ∙ e))
 
     module _ (bytes : List ℕ) (holds : getD ((recordOf t) .entries) n none ≡ some bytes) where

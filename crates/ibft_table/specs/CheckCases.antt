@@ -7,6 +7,7 @@ use Rattle.octets.specs.Octets.{le16, le32, zeros, checksum, write}
 use Rattle.ibft_table.specs.Layout.{control, controlAt, controlEnd, wordAt, kindOf, indexOf, chapAt}
 use Rattle.ibft_table.specs.Check.{checkOf}
 use Rattle.ibft_table.specs.Computing.{computing}
+use Rattle.table_header.specs.Verdict.{refusal}
 use Rattle.table_header.specs.declared.verdict.Verdict.{Verdict}
 use Rattle.table_header.specs.declared.verdict.Verdict.the-variants.{Accepted, Refused}
 
@@ -76,7 +77,11 @@ accepts : List ℕ → Case
 accepts t = record { table = t; verdict = Accepted }
 
 refuses : ℕ → ℕ → List ℕ → Case
-refuses number place t = record { table = t; verdict = Refused (record { number = number; place = place }) }
+refuses number place t = record { table = t; verdict = Refused (refusal number place) }
+
+-- refused with 6: the byte that would be right at 9
+wrongSum : ℕ → List ℕ → Case
+wrongSum byte t = record { table = t; verdict = Refused (record { number = 6; place = 9; checksum = byte }) }
 
 cases : List Case
 cases =
@@ -85,7 +90,13 @@ cases =
     ∷ refuses 3 0 (take 47 bare)
     ∷ refuses 4 0 (changed 0 0x49 case5)
     ∷ refuses 5 4 (take 132 case5)
-    ∷ refuses 6 9 (write case5 20 (1 ∷ []))
+    -- one byte has become 1, and 1 less would be right at 9; the byte that stands there does not count, nor do bytes lent past
+    -- Length; 6 comes before the 7 of a Revision of 2; the right byte may be 0
+    ∷ wrongSum 65 (write case5 20 (1 ∷ []))
+    ∷ wrongSum 66 (write case5 9 (7 ∷ []))
+    ∷ wrongSum 65 (write case5 20 (1 ∷ []) ++ (9 ∷ []))
+    ∷ wrongSum 65 (write case5 8 (2 ∷ []))
+    ∷ wrongSum 0 (write case5 20 (66 ∷ []))
     ∷ refuses 7 8 (changed 8 2 case5)
     ∷ refuses 8 10 (changed 12 0x41 case5)
     -- Control's ID, version, Length (odd, above 42, past the table) and Index
@@ -120,5 +131,5 @@ cases =
     ∷ []
 
 judged : map (λ (c : Case). checkOf (c .table)) cases ≡ map (λ (c : Case). c .verdict) cases
-unfolding computing blank place words sealed changed bare case5 crossed letters alone named chapNamed hosted accepts refuses cases
+unfolding computing blank place words sealed changed bare case5 crossed letters alone named chapNamed hosted accepts refuses wrongSum cases
 judged = refl

@@ -3,8 +3,10 @@ use mathlib.Core.Path.{_≡_, refl}
 use mathlib.Core.List.{List, [], _∷_, _++_, map}
 use Prim.Native.Nat.{ℕ}
 use lib.ListN.{take}
+use Rattle.octets.specs.Counting.{tabulate}
 use Rattle.octets.specs.Octets.{byte, word16, word64, bytesAt, le16, le32, zeros, checksum, write}
-use Rattle.ibft_table.specs.Readings.{textAt, initiatorIn, nicIn, targetIn, addressKindOf, addressNumber, structureOf, initiatorOf, nicOf, targetOf, entryOf, viewOf}
+use Rattle.table_header.specs.Verdict.{refusal, accepted}
+use Rattle.ibft_table.specs.Readings.{textAt, initiatorIn, nicIn, targetIn, addressKindOf, addressNumber, headerOf, structureOf, initiatorOf, nicOf, targetOf, entryOf, viewOf}
 use Rattle.ibft_table.specs.Layout.{Kind, initiator, nic, target, kindField}
 use Rattle.ibft_table.specs.Login.{loginOrderOf}
 use Rattle.ibft_table.specs.Computing.{computing}
@@ -129,7 +131,7 @@ login-orders = refl
 -- ---- readings of such a table
 
 -- present: its ID, start and flags
-second-target : structureOf (twoTargets 0 1 3) 4 ≡ record { refusal = record { number = 0; place = 0 }; id = 4; index = 1; start = 128; flags = 3 }
+second-target : structureOf (twoTargets 0 1 3) 4 ≡ record { refusal = accepted; id = 4; index = 1; start = 128; flags = 3 }
 unfolding computing twoTargets unsummed targetBytes
 second-target = refl
 
@@ -152,8 +154,21 @@ refusal-numbers : (initiatorOf (twoTargets 0 1 3)) .refusal .number
 unfolding computing twoTargets unsummed targetBytes
 refusal-numbers = refl
 
+-- a wrong sum: 0 stands at 9, and each reading and the login order tell the byte that would be right
+checksum-told : (headerOf (unsummed 0 1 3)) .refusal
+    ∷ (structureOf (unsummed 0 1 3) 4) .refusal
+    ∷ (initiatorOf (unsummed 0 1 3)) .refusal
+    ∷ (nicOf (unsummed 0 1 3) 0) .refusal
+    ∷ (targetOf (unsummed 0 1 3) 1) .refusal
+    ∷ (entryOf (unsummed 0 1 3) 2) .refusal
+    ∷ (loginOrderOf (unsummed 0 1 3)) .refusal
+    ∷ []
+    ≡ tabulate (λ (i : ℕ). record { number = 6; place = 9; checksum = 173 }) 0 7
+unfolding computing unsummed targetBytes
+checksum-told = refl
+
 -- the check comes first, with its number and place; refused, every field is 0 and a view is empty
-check-first : (structureOf (twoTargets 0 1 16) 9 ≡ record { refusal = record { number = 10; place = 133 }; id = 0; index = 0; start = 0; flags = 0 })
+check-first : (structureOf (twoTargets 0 1 16) 9 ≡ record { refusal = refusal 10 133; id = 0; index = 0; start = 0; flags = 0 })
     × ((targetOf (twoTargets 0 1 16) 0) .fields ≡ targetIn [])
     × (viewOf (twoTargets 0 1 16) 2 ≡ [])
 unfolding computing twoTargets unsummed targetBytes

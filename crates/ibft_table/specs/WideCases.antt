@@ -2,7 +2,6 @@
 use mathlib.Core.Path.{_≡_, refl}
 use mathlib.Core.List.{List, [], _∷_, _++_, map}
 use Prim.Native.Nat.{ℕ, _-_}
-use lib.ListN.{take}
 use Rattle.octets.specs.Octets.{le16, le32, zeros, checksum, write}
 use Rattle.ibft_table.specs.Layout.{Kind, control, nic, target, controlAt, wordAt}
 use Rattle.ibft_table.specs.Table.{startsOf}
@@ -11,6 +10,7 @@ use Rattle.ibft_table.specs.Record.{recordOf}
 use Rattle.ibft_table.specs.Readings.{structureOf, nicOf, targetOf}
 use Rattle.ibft_table.specs.Login.{loginOrderOf}
 use Rattle.ibft_table.specs.Computing.{computing}
+use Rattle.table_header.specs.Verdict.{refusal, accepted}
 use Rattle.table_header.specs.declared.verdict.Verdict.{Verdict}
 use Rattle.table_header.specs.declared.verdict.Verdict.the-variants.{Accepted, Refused}
 
@@ -54,7 +54,7 @@ unfolding computing blank place sealed turned
 readings = refl
 
 -- one valid target, whose Index is 255
-login : loginOrderOf three ≡ record { refusal = record { number = 0; place = 0 }; used = 1; places = 255 ∷ 255 ∷ 255 ∷ 255 ∷ 255 ∷ 255 ∷ 255 ∷ 255 ∷ [] }
+login : loginOrderOf three ≡ record { refusal = accepted; used = 1; places = 255 ∷ 255 ∷ 255 ∷ 255 ∷ 255 ∷ 255 ∷ 255 ∷ 255 ∷ [] }
 unfolding computing blank place sealed three
 login = refl
 
@@ -66,7 +66,7 @@ accepts : List ℕ → Case
 accepts t = record { table = t; verdict = Accepted }
 
 refuses : ℕ → ℕ → List ℕ → Case
-refuses number place t = record { table = t; verdict = Refused (record { number = number; place = place }) }
+refuses number place t = record { table = t; verdict = Refused (refusal number place) }
 
 cases : List Case
 cases =

@@ -14,13 +14,13 @@ ghost use Rattle.octets.specs.Counting.{any, gather};
 ghost use Rattle.octets.specs.Octets.{differs};
 ghost use Rattle.ibft_table.specs.Layout.{namedCount, wordAt};
 ghost use Rattle.ibft_table.specs.Table.{wordCount, startAt, usedAt, endAt};
-ghost use Rattle.table_header.specs.Verdict.{firstOf};
+ghost use Rattle.table_header.specs.Verdict.{refusal, firstOf};
 ghost use Rattle.ibft_table.specs.Check.{overlap, overlapTests};
 ghost use Rattle.table_header.specs.declared.verdict.Verdict.the-variants.{Refused};
 
 // The refusal of the later one of two words whose structures share a byte.
 fn refuse_overlap(w: u8) -> Verdict
-    ensures { λ r. ⌜ r ≡ Refused (record { number = 14; place = wordAt w }) ⌝ }
+    ensures { λ r. ⌜ r ≡ Refused (refusal 14 (wordAt w)) ⌝ }
 {
     refuse(14, word_at(w) as u32)
 }

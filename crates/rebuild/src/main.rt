@@ -2,6 +2,9 @@
 // record, as short as can be built, to standard output. A table that is refused is answered on standard error, and no table is written.
 use ibft_rebuild::rebuild::rebuild;
 use octets::read::part;
+use refusal_text::LINE_SIZE;
+use refusal_text::put_refusal;
+use table_header::verdict::Refusal;
 
 const STDIN: i32 = 0;
 
@@ -15,12 +18,10 @@ const LONGEST_INPUT: usize = 16384;
 // The longest table that a build makes.
 const LONGEST_TABLE: usize = 13710;
 
-fn say_refusal(number: u8, place: u32) {
-    io::write_all(STDERR, b"refused ");
-    io::print_decimal(STDERR, number as u64);
-    io::write_all(STDERR, b" ");
-    io::print_decimal(STDERR, place as u64);
-    io::write_all(STDERR, b"\n");
+fn say_refusal(refusal: Refusal) {
+    let mut room = [0u8; LINE_SIZE];
+    let end = put_refusal(&mut room, 0, refusal);
+    io::write_all(STDERR, part(&room, 0, end));
 }
 
 // Rebuilds the table and writes the new one. (None has more bytes than the room, so want of room, 21, is not met here.)
@@ -29,7 +30,7 @@ fn write_rebuilt(table: &[u8]) {
     let built = rebuild(table, &mut room);
     let refusal = built.refusal;
     if refusal.number != 0 {
-        say_refusal(refusal.number, refusal.place);
+        say_refusal(refusal);
         return;
     }
     io::write_all(STDOUT, part(&room, 0, built.length as usize));

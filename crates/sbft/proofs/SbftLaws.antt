@@ -15,6 +15,7 @@ use lib.ListN.{length, take, drop, length-set}
 use lib.Dec.{eqb}
 use Rattle.octets.specs.Counting.{first, any, gather}
 use Rattle.octets.specs.Octets.{byte, word16, le16, bytesPast, bytesAt, zeros, checksum, write}
+use Rattle.octets.specs.Promises.{ChecksumByte}
 use Rattle.octets.proofs.LiesLaws.{lies-front, lies-middle, lies-last}
 use Rattle.octets.proofs.ReadLaws.{length-bytesPast, bytes-from}
 use Rattle.scan.specs.Scan.{sbft}
@@ -27,7 +28,7 @@ use Rattle.table_header.specs.declared.verdict.Verdict.the-variants.{Accepted, 
 use Rattle.table_header.specs.declared.write.Written.{Written}
 use Rattle.table_header.proofs.VerdictLaws.{accept-none, append-accepted}
 use Rattle.table_header.proofs.HeaderLaws.{reserved-zeros}
-use Rattle.table_header.proofs.SealedLaws.{Sealed, length-back, oem-id-back, oem-table-id-back, behind-byte, behind-lies, behind-bytes, header-passes}
+use Rattle.table_header.proofs.SealedLaws.{Sealed, length-back, oem-id-back, oem-table-id-back, behind-byte, behind-lies, behind-bytes, header-passes, sealed-stands}
 use Rattle.table_header.proofs.WriteLaws.{behind-put, sealed-put, write-accepted, room-kept, room-filled, writes}
 use Rattle.sbft.specs.Layout.{partCount, partOf, offsetOf, absent, endOf}
 use Rattle.sbft.specs.Check.{outside, outsideTests, overlap, overlapTests, ibTests, checkTests, checkOf}
@@ -242,6 +243,10 @@ table-length image =
     let lacks = absent image 2 in
     ap length (table-is image) ∙ length-set (bare lacks image) 9 (checksum (bare lacks image) 9) ∙ bare-length lacks image
 
+checksum-stands : (image : List ℕ) → ChecksumByte (tableOf image) 9 (byte (tableOf image) 9)
+unfolding tableOf lengthWritten
+checksum-stands image = sealed-stands _ (omega (arith, table-length image))
+
 length-is : (image rest : List ℕ) → lengthOf (tableOf image ++ rest) ≡ lengthWritten image
 unfolding lengthWritten
 length-is image rest = length-at image rest (absent image 2) refl
@@ -251,7 +256,7 @@ module _ (image before : List ℕ) (v : Verdict) (judged : v ≡ writeVerdict im
       → Write image before answer after
   unfolding writtenOf roomAfter writeVerdict
   promise =
-      writes checkOf recordOf (recordGiven image) (bytesAt image 10 6) (bytesAt image 16 8) (tableOf image) before (lengthWritten image) (table-length image) (length-is image)
+      writes checkOf recordOf (recordGiven image) (bytesAt image 10 6) (bytesAt image 16 8) (tableOf image) before (lengthWritten image) (table-length image) (checksum-stands image) (length-is image)
       (λ id tableId rest. record { passes = passes image rest id tableId; reads-back = reads-back image rest }) v judged
 
   pub promise-refused : (answer : Written) (r : Refusal) → v ≡ Refused r → answer ≡ writtenFrom (lengthWritten image) v → Write image before answer before

@@ -7,7 +7,7 @@ use Prim.Native.Nat.{ℕ, _≤_, _<_}
 use lib.ListN.{length}
 use denote.Ref.{RefT, now}
 use Rattle.octets.specs.View.{Shows}
-use Rattle.table_header.specs.Verdict.{refusalOf}
+use Rattle.table_header.specs.Verdict.{refusal, refusalOf}
 use Rattle.table_header.specs.declared.verdict.Verdict.the-variants.{Accepted}
 use Rattle.table_header.specs.Promises.{Judges, Writes}
 use Rattle.table_header.specs.declared.verdict.Verdict.{Verdict}
@@ -21,7 +21,7 @@ use Rattle.sbft.specs.Write.{recordGiven, writtenOf, roomAfter}
 
 -- the verdict is that of the first test that fails
 abbrev pub Check : List ℕ → Verdict → Type 0
-Check t v = Judges (checkTests t) (checkOf t) v
+Check t v = Judges t (checkTests t) (checkOf t) v
 
 -- the number that a reading of part k returns: 0 where it is accepted
 abbrev pub partNumber : List ℕ → ℕ → ℕ
@@ -45,7 +45,7 @@ Write image before answer after =
 
 -- the reading of an IB part: its fields, or 22 where it is absent
 abbrev pub ibRead : Option Ib → IbReading
-ibRead none = record { refusal = record { number = 22; place = 0 }; fields = ibIn [] }
+ibRead none = record { refusal = refusal 22 0; fields = ibIn [] }
 ibRead (some fields) = record { refusal = refusalOf Accepted; fields = fields }
 
 -- each reading of the table gives its part of what the table means

@@ -4,8 +4,8 @@ use mathlib.Core.List.{List, [], _∷_, _++_, map}
 use Prim.Native.Nat.{ℕ, zero, suc}
 use lib.ListN.{length}
 use Rattle.octets.specs.Octets.{byte, le16, zeros, write}
+use Rattle.table_header.specs.Verdict.{refusal, accepted}
 use Rattle.table_header.specs.Header.{sealed}
-use Rattle.table_header.specs.declared.verdict.Refusal.{Refusal}
 use Rattle.table_header.specs.declared.verdict.Verdict.{Verdict}
 use Rattle.table_header.specs.declared.verdict.Verdict.the-variants.{Accepted, Refused}
 use Rattle.table_header.specs.declared.write.Written.{Written}
@@ -40,9 +40,6 @@ moved word offset = sealed (write table word (le16 offset))
 changed : ℕ → ℕ → List ℕ
 changed at b = sealed (write table at (b ∷ []))
 
-refusal : ℕ → ℕ → Refusal
-refusal number place = record { number = number; place = place }
-
 refuses : ℕ → ℕ → Verdict
 refuses number place = Refused (refusal number place)
 
@@ -70,8 +67,14 @@ judged : map checkOf
     ∷ [])
     ≡ refuses 30 24 ∷ refuses 30 47 ∷ refuses 31 36 ∷ refuses 31 38 ∷ refuses 31 38 ∷ refuses 31 38 ∷ refuses 31 40 ∷ refuses 32 38 ∷ refuses 32 40
     ∷ refuses 30 130 ∷ refuses 30 135 ∷ refuses 31 40 ∷ refuses 32 40 ∷ refuses 30 47 ∷ Accepted ∷ []
-unfolding computing image table moved changed refusal refuses from
+unfolding computing image table moved changed refuses from
 judged = refl
+
+-- a wrong sum: 40 stands at 9, and with 48 less in the others 88 would be right; the check's refusal comes through a reading
+wrong-sum : (checkOf (write table 48 (0 ∷ [])) ≡ Refused (record { number = 6; place = 9; checksum = 88 }))
+    × ((scsiOf (write table 48 (0 ∷ []))) .refusal ≡ record { number = 6; place = 9; checksum = 88 })
+unfolding computing image table from
+wrong-sum = (refl, refl)
 
 -- the record of an image is that of the table that is written from it
 reads-back : (recordOf table ≡ recordGiven image) × (recordOf (tableOf plain) ≡ recordGiven plain)
@@ -80,8 +83,8 @@ reads-back = (refl, refl)
 
 -- an absent IB part: 22; but the check first
 absent : (ibOf (tableOf plain)) .refusal ∷ (scsiOf (tableOf plain)) .refusal ∷ (ibOf (changed 24 1)) .refusal ∷ []
-    ≡ refusal 22 0 ∷ refusal 0 0 ∷ refusal 30 24 ∷ []
-unfolding computing image plain table changed refusal from
+    ≡ refusal 22 0 ∷ accepted ∷ refusal 30 24 ∷ []
+unfolding computing image plain table changed from
 absent = refl
 
 -- the readings have each byte of a part up to the reserved ones exactly once
@@ -109,5 +112,5 @@ rooms : (writtenOf image 135 ≡ answer 21 0 0)
     × (roomAfter image (zeros 135) ≡ zeros 135)
     × (writtenOf plain 89 ≡ answer 0 0 88)
     × (roomAfter plain (zeros 88 ++ (5 ∷ [])) ≡ tableOf plain ++ (5 ∷ []))
-unfolding computing image plain refusal answer from
+unfolding computing image plain answer from
 rooms = (refl, refl, refl, refl)

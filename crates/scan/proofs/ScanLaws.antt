@@ -1,28 +1,29 @@
 -- Laws of the scan: a loop by 16 passes over no sound place, and what the definition answers is what the promises say.
 --     unaligned, sixteen-more     no place between two multiples of 16 is sound
 --     sound-within                a sound place has its table in the window and in the bytes lent
+--     sound-sums                  and its checksum byte stands there
 --     lowest-at, lowest-none      what a search finds that leaves no sound place behind it
 --     scan-promises               the promises, from the definition's answer
 --     shows-nothing, shows-table  the same of the table shown
 -- Assumes nothing.
-use mathlib.Core.Path.{_≡_, refl, sym, ap, _∙_}
-use mathlib.Core.Logic.{_↔_}
+use mathlib.Core.Path.{_≡_, sym, ap, _∙_}
 use mathlib.Core.List.{List, []}
-use mathlib.Core.Bool.{Bool, true, false, cond, and-false}
+use mathlib.Core.Bool.{true, false, and-false}
 use Prim.Native.Nat.{ℕ, _+_, _-_, _%_, _≤_, _<_}
 use native.Mathlib.Decide.{decLt, decLe}
 use native.Mathlib.Omega.{arith}
-use borrow.Author.Tests.{ne-eqb, eq-eqb, lt-ltb, le-ltb, lt-leb, le-leb}
-use lib.Dec.{eqb, leb, ltb}
+use borrow.Author.Tests.{ne-eqb, eq-eqb, lt-ltb, le-ltb, lt-leb}
+use lib.Dec.{eqb}
 use lib.ListN.{length}
 use denote.Ref.{RefT, now}
 use Rattle.octets.specs.Octets.{byte, part, sum, checksum}
-use Rattle.octets.specs.Counting.{first}
-use Rattle.octets.specs.View.{Shows, Part}
-use Rattle.octets.proofs.CountingLaws.{clash, first-is, first-le, first-hit, first-below}
-use Rattle.octets.proofs.SumLaws.{checksum-stands}
+use Rattle.octets.specs.Promises.{ChecksumByte}
+use Rattle.octets.specs.View.{Shows}
+use Rattle.octets.proofs.CountingLaws.{clash, first-is, first-hit, first-below}
+use Rattle.octets.proofs.ReadLaws.{part-byte}
+use Rattle.octets.proofs.SumLaws.{checksum-stands, checksum-byte}
 use Rattle.scan.specs.Scan.{lengthAt, soundAt, lowest, refused, scanAt, scanOf, shownOf, tableOf}
-use Rattle.scan.specs.Promises.{Lowest, Promise, View}
+use Rattle.scan.specs.Promises.{Promise, View}
 use Rattle.scan.specs.declared.Family.{Family}
 use Rattle.scan.specs.declared.Scanned.{Scanned}
 
@@ -68,6 +69,19 @@ module _ (f : Family) (mem : List ℕ) (address : ℕ) where
             clash e fails
       ]
 
+  pub sound-sums : (k : ℕ) → ((j : ℕ) → byte mem j < 256) → soundAt f mem address k ≡ true
+      → ChecksumByte (part mem k (lengthAt mem k)) 9 (byte (part mem k (lengthAt mem k)) 9)
+  unfolding soundAt
+  sound-sums k bytes e =
+      let table : List ℕ = part mem k (lengthAt mem k) in
+      let small : byte table 9 < 256 = part-byte mem k (lengthAt mem k) 9 bytes in
+      elim (decLt 0 (sum table % 256)) [
+        | yes h ↦
+            let fails : soundAt f mem address k ≡ false = simp (ne-eqb (sum table % 256) 0 (λ z. omega arith), and-false) in
+            clash e fails
+        | no h ↦ checksum-byte table 9 (byte table 9) (sym (checksum-stands table 9 small .1 (omega arith)))
+      ]
+
   -- ---- the lowest of them
 
   pub lowest-at : (k : ℕ) → k < length mem → soundAt f mem address k ≡ true → ((i : ℕ) → i < k → soundAt f mem address i ≡ false)
@@ -106,6 +120,7 @@ module _ (f : Family) (mem : List ℕ) (address : ℕ) where
         above = (λ n. h, λ n. number);
         no-place = (λ n. absurd (omega arith), λ p. absurd (p .0 h));
         found = (λ n. absurd (omega arith), λ p. absurd (p .0 h));
+        checksum-stands = λ n. absurd (omega arith);
         refused = λ n. (ap (λ (s : Scanned). s .address) is, ap (λ (s : Scanned). s .length) is);
       }
 
@@ -121,13 +136,14 @@ module _ (f : Family) (mem : List ℕ) (address : ℕ) where
         above = (λ n. absurd (omega arith), λ p. absurd (within p));
         no-place = (λ n. (within, none), λ p. number);
         found = (λ n. absurd (omega arith), λ p. clash (p .1 .sound) (none (p .1 .k) (p .1 .lent)));
+        checksum-stands = λ n. absurd (omega arith);
         refused = λ n. (ap (λ (s : Scanned). s .address) is, ap (λ (s : Scanned). s .length) is);
       }
 
-  promises-found : (answer : Scanned) → answer ≡ scanOf f mem address → (f .high < address + length mem → ⊥)
+  promises-found : ((i : ℕ) → byte mem i < 256) → (answer : Scanned) → answer ≡ scanOf f mem address → (f .high < address + length mem → ⊥)
       → lowest f mem address < length mem → Promise f mem address answer
   unfolding lowest
-  promises-found answer e within h =
+  promises-found bytes answer e within h =
       let is = e ∙ scan-found within h in
       let number : answer .number ≡ 0 = ap (λ (s : Scanned). s .number) is in
       let hit : soundAt f mem address (lowest f mem address) ≡ true = first-hit (length mem) (soundAt f mem address) h in
@@ -149,17 +165,20 @@ module _ (f : Family) (mem : List ℕ) (address : ℕ) where
           ),
           λ p. number,
         );
+        checksum-stands = λ n k at.
+            let here : lowest f mem address ≡ k = omega (arith, at, ap (λ (s : Scanned). s .address) is) in
+            rw (← here, ap (λ (s : Scanned). s .length) is) (sound-sums (lowest f mem address) bytes hit);
         refused = λ n. absurd (n number);
       }
 
   -- whatever answers as the definition does keeps the promises
-  pub scan-promises : (answer : Scanned) → answer ≡ scanOf f mem address → Promise f mem address answer
-  scan-promises answer e =
+  pub scan-promises : ((i : ℕ) → byte mem i < 256) → (answer : Scanned) → answer ≡ scanOf f mem address → Promise f mem address answer
+  scan-promises bytes answer e =
       elim (decLt (f .high) (address + length mem)) [
         | yes h ↦ promises-above answer e h
         | no h ↦
             elim (decLt (lowest f mem address) (length mem)) [
-              | yes l ↦ promises-found answer e h l
+              | yes l ↦ promises-found bytes answer e h l
               | no l ↦ promises-none answer e h (omega arith)
             ]
       ]

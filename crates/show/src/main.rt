@@ -18,12 +18,15 @@ use notation::mac::put_mac;
 use octets::read::byte_at;
 use octets::read::part;
 use octets::read::u32_at;
+use refusal_text::LINE_SIZE;
+use refusal_text::put_refusal;
 use sbft::layout::Part;
 use sbft::layout::absent;
 use sbft::layout::offset_of;
 use sbft::layout::part_of;
 use scan::Family;
 use table_header::header::length_of;
+use table_header::verdict::Refusal;
 use table_header::verdict::Verdict;
 
 const STDOUT: i32 = 1;
@@ -145,18 +148,16 @@ fn show_table(t: &[u8]) {
     show_order(login_order(t));
 }
 
-fn show_refusal(number: u8, place: u32) {
-    print(b"refused ");
-    print_number(number as u64);
-    print(b" ");
-    print_number(place as u64);
-    print(b"\n");
+fn show_refusal(refusal: Refusal) {
+    let mut room = [0u8; LINE_SIZE];
+    let end = put_refusal(&mut room, 0, refusal);
+    print(part(&room, 0, end));
 }
 
 fn show_ibft(t: &[u8]) {
     match check(t) {
         Verdict::Accepted => show_table(t),
-        Verdict::Refused(refusal) => show_refusal(refusal.number, refusal.place),
+        Verdict::Refused(refusal) => show_refusal(refusal),
     }
 }
 
@@ -184,7 +185,7 @@ fn show_abft(t: &[u8]) {
     let reading = read_abft(t);
     let refusal = reading.refusal;
     if refusal.number != 0 {
-        show_refusal(refusal.number, refusal.place);
+        show_refusal(refusal);
         return;
     }
     show_length(b"abft", t);
@@ -218,7 +219,7 @@ fn show_parts(t: &[u8]) {
 fn show_sbft(t: &[u8]) {
     match sbft::check::check(t) {
         Verdict::Accepted => show_parts(t),
-        Verdict::Refused(refusal) => show_refusal(refusal.number, refusal.place),
+        Verdict::Refused(refusal) => show_refusal(refusal),
     }
 }
 

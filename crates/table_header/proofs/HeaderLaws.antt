@@ -1,11 +1,10 @@
--- Laws of the header's check, and what is promised of every check.
+-- Laws of the header's check.
 --     padded-byte, padded-zero, padded-end                    an OEM field from a place on, by the byte at that place
 --     zero-byte, zero-broken, zero-end                        and its tail
 --     padded-part                                             an OEM field that is not all lent
---     sum-stands                                              the sum of Length bytes, by the checksum byte
+--     sum-stands, sum-tells                                   the sum of Length bytes, by the checksum byte
 --     reserved-stop, reserved-go, reserved-end                reserved bytes from a place on, by the byte at that place
 --     reserved-passes, reserved-zeros                         reserved bytes that are all zero
---     judges                                                  what is promised of a check, from its verdict
 -- Assumes nothing.
 use mathlib.Core.Path.{_≡_, refl, sym, ap, _∙_}
 use mathlib.Core.Logic.{_↔_}
@@ -21,16 +20,14 @@ use lib.ListN.{length, take, drop, drop-of-length-le}
 use lib.Seq.{drop-cons, take-nil}
 use Rattle.octets.specs.Counting.{tabulate}
 use Rattle.octets.specs.Octets.{byte, part, bytesPast, bytesAt, zeros, allZero, sum, checksum}
+use Rattle.octets.specs.Promises.{ChecksumByte}
 use Rattle.octets.proofs.LiesLaws.{Lies}
 use Rattle.octets.proofs.ReadLaws.{byte-past}
-use Rattle.octets.proofs.SumLaws.{checksum-stands}
 use Rattle.octets.proofs.WriteLaws.{length-zeros, getD-zeros}
-use Rattle.table_header.specs.Verdict.{Test, firstOf, refusalOf}
+use Rattle.table_header.specs.Verdict.{refusal, firstOf}
 use Rattle.table_header.specs.Header.{padded, reservedTests}
-use Rattle.table_header.specs.Promises.{Judges}
 use Rattle.table_header.specs.declared.verdict.Verdict.{Verdict}
 use Rattle.table_header.specs.declared.verdict.Verdict.the-variants.{Accepted, Refused}
-use Rattle.table_header.proofs.VerdictLaws.{none-fails, first-fails}
 
 module _ (s : List ℕ) (i : ℕ) where
   pub padded-byte : i < length s → (byte s i ≡ 0 → ⊥) → padded (drop i s) ≡ padded (drop (i + 1) s)
@@ -96,18 +93,23 @@ module _ (t : List ℕ) (i : ℕ) where
   unfolding part
   padded-part n = rw (add-zero i) at (padded-filled 0 n)
 
--- the first `n` bytes u sum to 0 where the checksum byte c of u stands as the byte b at 9
-pub sum-stands : (t u : List ℕ) (n c b : ℕ) → u ≡ part t 0 n → c ≡ checksum u 9 → b ≡ byte u 9 → b < 256 → (c ≡ b) ↔ (sum (take n t) % 256 ≡ 0)
-unfolding part
-sum-stands t u n c b whole sealed stands small =
-    let stands-iff = checksum-stands u 9 (omega arith) in
-    let same = ap (λ (l : List ℕ). sum l % 256) whole in
-    (λ e. sym same ∙ stands-iff .0 (sym sealed ∙ e ∙ stands), λ e. sealed ∙ stands-iff .1 (same ∙ e) ∙ sym stands)
+-- the first `n` bytes u of a table, and the checksum byte c of u: they sum to 0 where it stands as the byte b at 9
+module _ (t u : List ℕ) (n c : ℕ) (whole : u ≡ part t 0 n) (right : ChecksumByte u 9 c) where
+  pub sum-stands : (b : ℕ) → b ≡ byte u 9 → b < 256 → (c ≡ b) ↔ (sum (take n t) % 256 ≡ 0)
+  unfolding part
+  sum-stands b stands small =
+      let stands-iff = right .stands (omega arith) in
+      let same = ap (λ (l : List ℕ). sum l % 256) whole in
+      (λ e. sym same ∙ stands-iff .0 (e ∙ stands), λ e. stands-iff .1 (same ∙ e) ∙ sym stands)
+
+  pub sum-tells : c ≡ checksum (take n t) 9
+  unfolding part
+  sum-tells = right .checksum-is ∙ ap (λ (l : List ℕ). checksum l 9) whole
 
 -- ---- the n reserved bytes from `at` on, of which i have been looked at
 
 module _ (t : List ℕ) (at n i : ℕ) where
-  pub reserved-stop : i < n → (byte t (at + i) ≡ 0 → ⊥) → (v : Verdict) → v ≡ Refused (record { number = 30; place = at + i })
+  pub reserved-stop : i < n → (byte t (at + i) ≡ 0 → ⊥) → (v : Verdict) → v ≡ Refused (refusal 30 (at + i))
       → v ≡ firstOf (reservedTests t (at + i) (n - i))
   unfolding firstOf reservedTests tabulate
   reserved-stop h z v e =
@@ -137,12 +139,3 @@ reserved-zeros t at n l =
     (λ i low high.
     let place : i ≡ at + (i - at) = omega arith in
     ap (byte t) place ∙ l (i - at) (omega (arith, length-zeros n)) ∙ getD-zeros n (i - at))
-
-pub judges : (tests : List Test) (v : Verdict) → v ≡ firstOf tests → Judges tests (firstOf tests) v
-judges tests v e =
-    record {
-      verdict-is = e;
-      returns = ap refusalOf e;
-      accepted = rw e (none-fails tests);
-      refused = λ r. rw e (first-fails tests r);
-    }

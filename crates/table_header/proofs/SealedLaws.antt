@@ -5,6 +5,7 @@
 --     oem-id-back, oem-table-id-back             its OEM fields
 --     behind-byte, behind-lies, behind-bytes     the bytes behind the header
 --     header-passes                              it passes the header's tests
+--     sealed-stands                              its checksum byte stands at 9
 -- Assumes nothing.
 use mathlib.Core.Path.{_≡_, sym, ap, _∙_}
 use mathlib.Core.Bool.{true, not}
@@ -18,7 +19,8 @@ use lib.Seq.{getD-append-add, getD-set-other, take-at}
 use Rattle.octets.specs.Octets.{byte, word32, part, bytesAt, sum, checksum}
 use Rattle.octets.proofs.LiesLaws.{Lies}
 use Rattle.octets.proofs.ReadLaws.{bytes-elements, bytes-part, bytes-same}
-use Rattle.octets.proofs.SumLaws.{checksum-sums}
+use Rattle.octets.specs.Promises.{ChecksumByte}
+use Rattle.octets.proofs.SumLaws.{checksum-sums, checksum-put}
 use Rattle.octets.proofs.TestLaws.{same-differs}
 use Rattle.table_header.specs.Verdict.{firstOf}
 use Rattle.table_header.specs.Header.{lengthOf, padded, headerTests, headerStart, headed, sealed}
@@ -32,6 +34,10 @@ pub record Sealed (t : List ℕ) (signature long : ℕ) (oemId oemTableId behind
   pub six : length oemId ≡ 6
   pub eight : length oemTableId ≡ 8
   pub whole : 24 + length behind ≡ long
+
+pub sealed-stands : (t : List ℕ) → 9 < length (sealed t) → ChecksumByte (sealed t) 9 (byte (sealed t) 9)
+unfolding sealed
+sealed-stands t h = checksum-put t 9 (omega (arith, length-set t 9 (checksum t 9)))
 
 -- four bytes of a number, read again
 number-back : (v : ℕ) → v < 4294967296

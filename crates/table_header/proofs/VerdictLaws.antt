@@ -3,6 +3,7 @@
 --     pass-cons, fail-cons, accept-cons, passes, cons-same     a list by its front test
 --     first-append, append-accepted, append-refused            two lists: the first one's verdict, or else the second's
 --     append-passes, append-same                               two lists accepted; two pairs of lists with one verdict
+--     refused-front, refused-append                            a refusal by the test, and by the list, that gives it
 --     append-stop, append-go, gather-stop, gather-go, gather-end     the same as functions and loops ask for it
 --     split-stop, split-go                                     the first k of n lists by number, then the others
 --     gather-passes, gather-accepts, gather-verdict-same       lists by number: accepted exactly where each is
@@ -105,6 +106,24 @@ module _ (xs ys : List Test) where
 
     pub append-go : v ≡ Accepted → firstOf ys ≡ firstOf (xs ++ ys)
     append-go e = sym (append-accepted (sym is ∙ e))
+
+-- a refusal is that of the front test, which fails, or it passes and the refusal is that of the rest; of two lists alike
+module _ {X : Type 0} where
+  pub refused-front : (x : Test) (ts : List Test) (r : Refusal) → firstOf (x ∷ ts) ≡ Refused r → (x .fails ≡ true → x .refusal ≡ r → X)
+      → (x .fails ≡ false → firstOf ts ≡ Refused r → X) → X
+  refused-front x ts r e front rest = go (x .fails) refl
+    where
+      go : (b : Bool) → x .fails ≡ b → X
+      go true f = let same : Refused (x .refusal) ≡ Refused r = sym (fail-cons x ts f) ∙ e in front f cc
+      go false f = rest f (sym (pass-cons x ts f) ∙ e)
+
+  pub refused-append : (xs ys : List Test) (r : Refusal) → firstOf (xs ++ ys) ≡ Refused r → (firstOf xs ≡ Refused r → X)
+      → (firstOf xs ≡ Accepted → firstOf ys ≡ Refused r → X) → X
+  refused-append xs ys r e front rest = go (firstOf xs) refl
+    where
+      go : (v : Verdict) → firstOf xs ≡ v → X
+      go Accepted f = rest f (sym (append-accepted xs ys f) ∙ e)
+      go (Refused q) f = front (f ∙ sym (append-refused xs ys q f) ∙ e)
 
 pub append-same : (xs zs ys ws : List Test) → firstOf xs ≡ firstOf zs → (firstOf zs ≡ Accepted → firstOf ys ≡ firstOf ws)
     → firstOf (xs ++ ys) ≡ firstOf (zs ++ ws)

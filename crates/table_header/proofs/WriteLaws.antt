@@ -7,7 +7,7 @@
 --     room-kept, room-filled     the room after a refused write, and after an accepted one
 --     writes                     what is promised of a write, from what its table says
 -- Assumes nothing.
-use mathlib.Core.Path.{_≡_, refl, sym, ap, ap₂, _∙_}
+use mathlib.Core.Path.{_≡_, refl, sym, ap, ap₂, _∙_, subst}
 use mathlib.Core.Bool.{true}
 use mathlib.Core.List.{List, [], _∷_, _++_, append-assoc, append-nil}
 use Prim.Native.Nat.{ℕ, _+_, _-_, _≤_, _<_}
@@ -15,7 +15,8 @@ use native.Mathlib.Omega.{arith}
 use borrow.Author.Tests.{ltb-false, not-false}
 use lib.ListN.{length, take, drop, set, length-append, length-set}
 use lib.Seq.{take-append-add, take-at, drop-at, set-append-left}
-use Rattle.octets.specs.Octets.{part, bytesAt, checksum, write}
+use Rattle.octets.specs.Octets.{byte, part, bytesAt, checksum, write}
+use Rattle.octets.specs.Promises.{ChecksumByte}
 use Rattle.octets.proofs.ReadLaws.{length-bytesPast, part-whole}
 use Rattle.octets.proofs.WriteLaws.{write-front, write-halves, set-write}
 use Rattle.table_header.specs.Verdict.{firstOf, refusalOf}
@@ -108,7 +109,7 @@ module _ (table before : List ℕ) (v : Verdict) where
 -- ---- the promise, for a family's check and meaning, of a table of `long` bytes written into a room that held `before`
 
 module _ {R : Type 0} (check : List ℕ → Verdict) (recordOf : List ℕ → R) (given : R) (oemId oemTableId table before : List ℕ) (long : ℕ)
-    (size : length table ≡ long) (length-is : (rest : List ℕ) → lengthOf (table ++ rest) ≡ long)
+    (size : length table ≡ long) (stands : ChecksumByte table 9 (byte table 9)) (length-is : (rest : List ℕ) → lengthOf (table ++ rest) ≡ long)
     (says : padded oemId ≡ true → padded oemTableId ≡ true → (rest : List ℕ) → Says check recordOf given (table ++ rest)) where
   abbrev verdict : Verdict
   verdict = firstOf (writeTests oemId oemTableId long (length before))
@@ -120,6 +121,9 @@ module _ {R : Type 0} (check : List ℕ → Verdict) (recordOf : List ℕ → R)
         length-is = ap lengthOf is ∙ length-is (drop (length table) before);
         fits = w .2;
         rest = ap (drop long) is ∙ drop-at table (drop (length table) before) long size ∙ ap (λ (n : ℕ). drop n before) size;
+        checksum-stands =
+            let front : table ≡ take long after = sym (ap (take long) is ∙ take-at table (drop (length table) before) long size) in
+            subst (λ (u : List ℕ). ChecksumByte u 9 (byte u 9)) front stands;
         says = λ m h.
             let split : length table + (m - long) ≡ m = omega (arith, size) in
             let cut : take m after ≡ table ++ take (m - long) (drop (length table) before) =

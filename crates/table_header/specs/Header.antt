@@ -7,7 +7,7 @@ use lib.ListN.{length, take, set}
 use lib.Dec.{ltb, eqb}
 use Rattle.octets.specs.Counting.{tabulate}
 use Rattle.octets.specs.Octets.{byte, word32, le32, part, allZero, sum, checksum, differs}
-use Rattle.table_header.specs.Verdict.{Test, refuse}
+use Rattle.table_header.specs.Verdict.{Test, refuse, refuseWith}
 
 -- the Length field
 abbrev pub lengthOf : List ℕ → ℕ
@@ -18,14 +18,15 @@ unfoldable pub padded : List ℕ → Bool
 padded [] = true
 padded (b ∷ t) = cond (eqb b 0) (allZero t) (padded t)
 
--- the header of a table with this signature, at least so many bytes lent and of at least this Length
+-- the header of a table with this signature, at least so many bytes lent and of at least this Length. With 6 comes the byte
+-- with which, at 9, the Length bytes would sum to 0 modulo 256
 unfoldable pub headerTests : ℕ → ℕ → ℕ → List ℕ → List Test
 headerTests signature leastLent leastLength t =
     refuse 3 0 (ltb (length t) leastLent)
     ∷ refuse 4 0 (differs (word32 t 0) signature)
     ∷ refuse 5 4 (ltb (lengthOf t) leastLength)
     ∷ refuse 5 4 (ltb (length t) (lengthOf t))
-    ∷ refuse 6 9 (differs (sum (take (lengthOf t) t) % 256) 0)
+    ∷ refuseWith 6 9 (checksum (take (lengthOf t) t) 9) (differs (sum (take (lengthOf t) t) % 256) 0)
     ∷ refuse 7 8 (differs (byte t 8) 1)
     ∷ refuse 8 10 (not (padded (part t 10 6)))
     ∷ refuse 8 16 (not (padded (part t 16 8)))

@@ -1,6 +1,7 @@
 // The header that a table of every family starts with, and its check: refusals 3 to 8.
 use crate::verdict::Verdict;
 use crate::verdict::refuse;
+use crate::verdict::refuse_with;
 use octets::read::byte_at;
 use octets::read::part;
 use octets::read::u32_at;
@@ -76,7 +77,8 @@ pub(crate) fn check_oem(t: &[u8]) -> Verdict
     Verdict::Accepted
 }
 
-// The header up to the OEM fields: refusals 3 to 7. The sum is over Length bytes, not over all that are lent.
+// The header up to the OEM fields: refusals 3 to 7. The sum is over Length bytes, not over all that are lent; where it is not
+// 0, the byte with which it would be is answered.
 fn check_start(t: &[u8], signature: u32, least_lent: usize, least_length: u32) -> Verdict
     ensures { λ r. ⌜ r ≡ firstOf (take 6 (headerTests signature «least_lent» «least_length» (now (t .entry)))) ⌝ }
 {
@@ -94,8 +96,10 @@ fn check_start(t: &[u8], signature: u32, least_lent: usize, least_length: u32) -
         return refuse(5, LENGTH_AT);
     }
     let table = part(t, 0, length as usize);
-    if checksum(table, CHECKSUM_AT as usize) != byte_at(table, CHECKSUM_AT as usize) {
-        return refuse(6, CHECKSUM_AT);
+    let right = checksum(table, CHECKSUM_AT as usize);
+    let stands = byte_at(table, CHECKSUM_AT as usize);
+    if right != stands {
+        return refuse_with(6, CHECKSUM_AT, right);
     }
     if byte_at(t, REVISION_AT as usize) != REVISION {
         return refuse(7, REVISION_AT);

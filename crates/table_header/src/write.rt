@@ -22,7 +22,7 @@ ghost use Rattle.table_header.specs.Verdict.{firstOf};
 ghost use Rattle.table_header.specs.Header.{headerStart, headed};
 ghost use Rattle.table_header.specs.Write.{writeTests, writtenFrom};
 
-// What a write answers: its refusal (0 and 0 where it is accepted) and the table's Length.
+// What a write answers: its refusal (all 0 where it is accepted) and the table's Length.
 pub struct Written {
     pub refusal: Refusal,
     pub length: u32,

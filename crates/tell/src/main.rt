@@ -7,7 +7,10 @@ use family_text::fields::SBFT;
 use octets::read::part;
 use octets::read::u32_at;
 use record_text::tell::tell;
+use refusal_text::LINE_SIZE;
+use refusal_text::put_refusal;
 use scan::Family;
+use table_header::verdict::Refusal;
 use table_header::verdict::Verdict;
 use text::split::same;
 
@@ -21,12 +24,10 @@ fn print(text: &[u8]) {
     io::write_all(STDOUT, text);
 }
 
-fn print_refusal(number: u8, place: u32) {
-    print(b"refused ");
-    io::print_decimal(STDOUT, number as u64);
-    print(b" ");
-    io::print_decimal(STDOUT, place as u64);
-    print(b"\n");
+fn print_refusal(refusal: Refusal) {
+    let mut room = [0u8; LINE_SIZE];
+    let end = put_refusal(&mut room, 0, refusal);
+    print(part(&room, 0, end));
 }
 
 // (No text is longer than the room.)
@@ -77,7 +78,7 @@ fn tell_input(hide: bool) {
     let family = family_of(t);
     match check(t, family) {
         Verdict::Accepted => tell_table(t, family, hide),
-        Verdict::Refused(refusal) => print_refusal(refusal.number, refusal.place),
+        Verdict::Refused(refusal) => print_refusal(refusal),
     }
 }
 

@@ -1,5 +1,6 @@
 -- How the readings' answers are packed into one 64-bit number: bits 0 to 7 the refusal's number, bits 8 to 31 its place, from
--- bit 32 on what was read. The place is taken modulo 2^24, so that it keeps to its bits whatever the reading answers.
+-- bit 32 on its checksum byte, or what was read: then the byte has an export of its own. The place is taken modulo 2^24, so
+-- that it keeps to its bits whatever the reading answers.
 -- Assumes nothing: these are definitions.
 use Prim.Native.Nat.{ℕ, _+_, _*_, _%_, _^_}
 use Rattle.octets.specs.Octets.{byte}
@@ -9,16 +10,21 @@ use Rattle.ibft_table.specs.declared.entry.EntryReading.{EntryReading}
 use Rattle.ibft_table.specs.declared.login.LoginOrder.{LoginOrder}
 use Rattle.ibft_table.specs.declared.pci.Pci.{Pci}
 
+-- number and place
+abbrev pub packedPlace : Refusal → ℕ
+packedPlace r = r .number + 2 ^ 8 * (r .place % 2 ^ 24)
+
+-- and the checksum byte
 abbrev pub packedRefusal : Refusal → ℕ
-packedRefusal r = r .number + 2 ^ 8 * (r .place % 2 ^ 24)
+packedRefusal r = packedPlace r + 2 ^ 32 * r .checksum
 
 -- ID, start and flags from bits 32, 40 and 56 on
 abbrev pub packedStructure : StructureReading → ℕ
-packedStructure r = packedRefusal (r .refusal) + 2 ^ 32 * r .id + 2 ^ 40 * r .start + 2 ^ 56 * r .flags
+packedStructure r = packedPlace (r .refusal) + 2 ^ 32 * r .id + 2 ^ 40 * r .start + 2 ^ 56 * r .flags
 
 -- how many places are used, and the first two of them, from bits 32, 40 and 48 on
 abbrev pub packedOrder : LoginOrder → ℕ
-packedOrder r = packedRefusal (r .refusal) + 2 ^ 32 * r .used + 2 ^ 40 * byte (r .places) 0 + 2 ^ 48 * byte (r .places) 1
+packedOrder r = packedPlace (r .refusal) + 2 ^ 32 * r .used + 2 ^ 40 * byte (r .places) 0 + 2 ^ 48 * byte (r .places) 1
 
 -- An entry's place has a number of its own: beside number and place of a refusal there is no room for both of its words.
 abbrev pub packedEntryPlace : EntryReading → ℕ

@@ -12,7 +12,7 @@ mod view;
 
 ghost use mathlib.Core.Path.{_≡_};
 ghost use Rattle.hostname.specs.Hostname.{isHostName};
-ghost use Rattle.octets.specs.Octets.{checksum};
+ghost use Rattle.octets.specs.Promises.{ChecksumByte};
 ghost use Rattle.string_heap.specs.Tails.{agree, isTail};
 
 #[no_mangle]
@@ -24,7 +24,7 @@ pub extern "C" fn test_host_name(s: &[u8]) -> bool
 
 #[no_mangle]
 pub extern "C" fn test_checksum(s: &[u8], at: usize) -> u8
-    ensures { λ r. ⌜ r ≡ checksum (now (s .entry)) at ⌝ }
+    ensures { λ r. ⌜ ChecksumByte (now (s .entry)) at r ⌝ }
 {
     octets::sum::checksum(s, at)
 }

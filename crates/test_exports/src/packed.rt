@@ -1,4 +1,4 @@
-// The readings that fit one number, and the numbers and places of all of them. specs/Packed.antt says which bits hold what.
+// The readings that fit one number, and the refusals of all of them. specs/Packed.antt says which bits hold what.
 use ibft_table::address::AddressKind;
 use ibft_table::address::address_kind;
 use ibft_table::entry::read_entry;
@@ -14,13 +14,20 @@ ghost use Prim.Native.Nat.{_<_, _^_};
 ghost use Rattle.octets.specs.Octets.{word64, bytesAt};
 ghost use Rattle.ibft_table.specs.Readings.{structureOf, entryOf, addressKindOf, addressNumber, pciOf};
 ghost use Rattle.ibft_table.specs.Login.{loginOrderOf};
-ghost use Rattle.test_exports.specs.Packed.{packedRefusal, packedStructure, packedOrder, packedEntryPlace, packedPci};
+ghost use Rattle.test_exports.specs.Packed.{packedPlace, packedRefusal, packedStructure, packedOrder, packedEntryPlace, packedPci};
 
 // Number and place of a refusal.
-pub(crate) fn packed_refusal(refusal: Refusal) -> u64
-    ensures { λ r. ⌜ (r ≡ packedRefusal refusal) × (r < 2 ^ 32) ⌝ }
+fn packed_place(refusal: Refusal) -> u64
+    ensures { λ r. ⌜ (r ≡ packedPlace refusal) × (r < 2 ^ 32) ⌝ }
 {
     refusal.number as u64 + 256 * (refusal.place as u64 % 16777216)
+}
+
+// Number, place and checksum byte of a refusal.
+pub(crate) fn packed_refusal(refusal: Refusal) -> u64
+    ensures { λ r. ⌜ r ≡ packedRefusal refusal ⌝ }
+{
+    packed_place(refusal) + 4294967296 * refusal.checksum as u64
 }
 
 #[no_mangle]
@@ -28,7 +35,7 @@ pub extern "C" fn test_structure(t: &[u8], slot: u8) -> u64
     ensures { λ r. ⌜ r ≡ packedStructure (structureOf (now (t .entry)) slot) ⌝ }
 {
     let read = read_structure(t, slot);
-    packed_refusal(read.refusal)
+    packed_place(read.refusal)
         + 4294967296 * read.id as u64
         + 1099511627776 * read.start as u64
         + 72057594037927936 * read.flags as u64
@@ -40,6 +47,14 @@ pub extern "C" fn test_structure_index(t: &[u8], slot: u8) -> u8
     ensures { λ r. ⌜ r ≡ (structureOf (now (t .entry)) slot) .index ⌝ }
 {
     read_structure(t, slot).index
+}
+
+// The checksum byte of the same reading's refusal.
+#[no_mangle]
+pub extern "C" fn test_structure_checksum(t: &[u8], slot: u8) -> u8
+    ensures { λ r. ⌜ r ≡ (structureOf (now (t .entry)) slot) .refusal .checksum ⌝ }
+{
+    read_structure(t, slot).refusal.checksum
 }
 
 #[no_mangle]
@@ -63,7 +78,7 @@ pub extern "C" fn test_login_order(t: &[u8]) -> u64
 {
     let order = login_order(t);
     let places = order.places;
-    packed_refusal(order.refusal)
+    packed_place(order.refusal)
         + 4294967296 * order.used as u64
         + 1099511627776 * byte_at(&places[..], 0) as u64
         + 281474976710656 * byte_at(&places[..], 1) as u64
@@ -77,6 +92,14 @@ pub extern "C" fn test_login_places(t: &[u8]) -> u64
     let order = login_order(t);
     let places = order.places;
     u64_at(&places[..], 0)
+}
+
+// The checksum byte of the same order's refusal.
+#[no_mangle]
+pub extern "C" fn test_login_checksum(t: &[u8]) -> u8
+    ensures { λ r. ⌜ r ≡ (loginOrderOf (now (t .entry))) .refusal .checksum ⌝ }
+{
+    login_order(t).refusal.checksum
 }
 
 // The kind of the address that the first sixteen bytes are.

@@ -9,6 +9,7 @@ use Rattle.octets.specs.Octets.{byte}
 use Rattle.build_rules.specs.Rebuild.{rebuildAnswer}
 use Rattle.build_rules.specs.declared.Built.{Built}
 use Rattle.build_rules.proofs.RebuildLaws.{rebuild-placed}
+use Rattle.bootfw.specs.Pack.{upperOf}
 use borrow.Author.Needs.{needs}
 use Rattle.bootfw.proofs.ibft_rebuild.Statement.{statement}
 use Rattle.bootfw.proofs.ibft_rebuild.Tie as tie
@@ -19,15 +20,16 @@ placed t n built bytes is = omega (arith, rebuild-placed t n bytes, ap (λ (b : 
 
 packed-requires : tie.Need-packed-requires
 packed-requires c κs =
-    let bytes = c .before .before .before .before .before .before .shared-slice-known .given in
-    omega (arith, placed _ _ _ (λ i. omega (arith, bytes i)) (c .before .before .before .rebuild .ensures .answer-is))
+    let bytes = c .before .before .before .before .before .before .before .shared-slice-known .given in
+    omega (arith, placed _ _ _ (λ i. omega (arith, bytes i)) (c .before .before .before .before .rebuild .ensures .answer-is))
 
 returns : tie.Need-returns
 returns c =
-    let a = c .before .before .before .before .before .before .before .before .args in
-    let rebuilt = c .before .before .before .before .rebuild in
+    let a = c .before .before .before .before .before .before .before .before .before .args in
+    let rebuilt = c .before .before .before .before .before .rebuild in
     let is : rebuilt .result ≡ rebuildAnswer (a .table .now) (length (a .room .now)) = rebuilt .ensures .answer-is in
-    record { answer = rw (← is) (c .packed .ensures); promise = rw (← is) (rebuilt .ensures) }
+    let upper : c .before .upper-of .result ≡ upperOf (rebuilt .result .refusal) (rebuilt .result .length) = c .before .upper-of .ensures in
+    record { answer = rw (← is, ← upper) (c .packed .ensures); promise = rw (← is) (rebuilt .ensures) }
 
 pub ibft-rebuild-spec : {M : Type 1} → statement M
-ibft-rebuild-spec = tie.close (tie.spec (search needs) packed-requires (search needs) returns)
+ibft-rebuild-spec = tie.close (tie.spec (search needs) (search needs) packed-requires (search needs) returns)

@@ -12,7 +12,7 @@ returns : tie.Need-returns
 returns c =
     let t = c .before .before .before .args .table .now in
     let below : byte t 9 < 256 = rw (← c .byte-at .ensures) (search needs) in
-    ap₂ eqb (c .before .checksum .ensures) (c .byte-at .ensures) ∙ sums-to-zero t 9 below
+    ap₂ eqb (c .before .checksum .ensures .checksum-is) (c .byte-at .ensures) ∙ sums-to-zero t 9 below
 
 pub sums-to-zero-spec : {M : Type 1} → statement M
 sums-to-zero-spec = tie.close (tie.spec (search needs) (search needs) returns)

@@ -5,7 +5,7 @@ use borrow.Author.Tests.{lt-ltb, le-ltb}
 use mathlib.Core.List.{[], _∷_}
 use Rattle.octets.specs.Counting.{tabulate}
 use Rattle.ibft_table.specs.Layout.{targetCount}
-use Rattle.table_header.specs.Verdict.{refusalOf}
+use Rattle.table_header.specs.Verdict.{accepted, refusalOf}
 use Rattle.ibft_table.specs.Login.{placed}
 use Rattle.ibft_table.specs.declared.login.LoginOrder.{LoginOrder}
 use borrow.Author.Needs.{needs}
@@ -18,7 +18,7 @@ then-requires c κs = omega (arith, ap (λ (o : LoginOrder). o .used) (c .before
 returns : tie.Need-returns
 unfolding placed refusalOf tabulate
 returns c =
-    let nobody : c .before .before .before .none .result ≡ record { refusal = record { number = 0; place = 0 }; used = 0; places = 255 ∷ 255 ∷ 255 ∷ 255 ∷ 255 ∷ 255 ∷ 255 ∷ 255 ∷ [] } = c .before .before .before .none .ensures in
+    let nobody : c .before .before .before .none .result ≡ record { refusal = accepted; used = 0; places = 255 ∷ 255 ∷ 255 ∷ 255 ∷ 255 ∷ 255 ∷ 255 ∷ 255 ∷ [] } = c .before .before .before .none .ensures in
     c .then .ensures ∙ rw (nobody, lt-ltb (c .before .before .before .before .before .before .args .lead) targetCount (omega arith), c .before .target-index .ensures)
 
 returns-2 : tie.Need-returns-2

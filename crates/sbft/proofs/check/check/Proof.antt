@@ -7,9 +7,9 @@ use Rattle.octets.specs.Counting.{gather}
 use Rattle.table_header.specs.Verdict.{Test, firstOf}
 use Rattle.table_header.specs.Header.{reservedTests}
 use Rattle.table_header.proofs.VerdictLaws.{append-stop, append-go}
-use Rattle.table_header.proofs.HeaderLaws.{judges}
 use Rattle.sbft.specs.Layout.{partCount}
 use Rattle.sbft.specs.Check.{outsideTests, overlapTests, ibTests, checkTests, checkOf}
+use Rattle.sbft.proofs.CheckLaws.{check-promise}
 use borrow.Author.Needs.{needs}
 use Rattle.sbft.proofs.check.check.Statement.{statement}
 use Rattle.sbft.proofs.check.check.Tie as tie
@@ -47,19 +47,16 @@ last-passed c = append-go _ _ _ (c .before .before .check-reserved2 .ensures) (c
 -- the promise, of a verdict that is the definition's
 returns : tie.Need-returns
 unfolding checkOf checkTests
-returns c = judges _ _ (append-stop _ _ _ (c .before .before .check-header .ensures) _ (c .enum-told .given .1))
+returns c = check-promise _ _ (append-stop _ _ _ (c .before .before .check-header .ensures) _ (c .enum-told .given .1))
 
 returns-2 : tie.Need-returns-2
-unfolding checkOf
-returns-2 c = judges _ _ (append-stop _ _ _ (c .before .before .check-reserved .ensures) _ (c .enum-told3 .given .1) ∙ header-passed (c .before .before .before))
+returns-2 c = check-promise _ _ (append-stop _ _ _ (c .before .before .check-reserved .ensures) _ (c .enum-told3 .given .1) ∙ header-passed (c .before .before .before))
 
 returns-3 : tie.Need-returns-3
-unfolding checkOf
-returns-3 c = judges _ _ (append-stop _ _ _ (c .before .before .check-reserved2 .ensures) _ (c .enum-told5 .given .1) ∙ reserved-passed (c .before .before .before))
+returns-3 c = check-promise _ _ (append-stop _ _ _ (c .before .before .check-reserved2 .ensures) _ (c .enum-told5 .given .1) ∙ reserved-passed (c .before .before .before))
 
 returns-4 : tie.Need-returns-4
-unfolding checkOf
-returns-4 c = judges _ _ (c .check-parts .ensures ∙ last-passed (c .before))
+returns-4 c = check-promise _ _ (c .check-parts .ensures ∙ last-passed (c .before))
 
 pub check-spec : {M : Type 1} → statement M
 check-spec = tie.close (tie.spec (search needs) (search needs) (search needs) returns (search needs) (search needs) (search needs) returns-2 (search needs) (search needs) (search needs) returns-3 (search needs) (search needs) returns-4)

@@ -1,15 +1,17 @@
 -- `check_start` meets its contract. After the k-th test has passed, the verdict of all tests is that of the tests behind it
 -- (`pass1` to `pass6`). Assumes nothing.
-use mathlib.Core.Path.{sym, _∙_}
+use mathlib.Core.Path.{sym, ap, _∙_}
 use mathlib.Core.List.{List}
+use Prim.Native.Nat.{ℕ}
 use native.Mathlib.Omega.{arith}
 use lib.ListN.{length, take}
 use borrow.Author.Tests.{lt-ltb, le-ltb, eq-eqb, ne-eqb}
 use Rattle.octets.specs.Octets.{byte, word32}
 use Rattle.table_header.specs.Verdict.{Test, firstOf}
 use Rattle.table_header.specs.Header.{lengthOf, headerTests}
+use Rattle.table_header.specs.declared.verdict.Verdict.the-variants.{Refused}
 use Rattle.table_header.proofs.VerdictLaws.{Passed}
-use Rattle.table_header.proofs.HeaderLaws.{sum-stands}
+use Rattle.table_header.proofs.HeaderLaws.{sum-stands, sum-tells}
 use borrow.Author.Needs.{needs}
 use Rattle.table_header.proofs.header.check_start.Statement.{statement}
 use Rattle.table_header.proofs.header.check_start.Tie as tie
@@ -36,7 +38,7 @@ pass4 c = pass3 (c .before) ∙ rw (le-ltb (length (c .before .before .before .b
 pass5 : (c : tie.Else5) → Passed (tests (c .before .before .before .before .before .before .before .before .before .before .before)) 5
 unfolding firstOf headerTests
 pass5 c =
-    let sealed = sum-stands (c .before .before .before .before .before .before .before .before .before .before .before .args .t .now) _ _ _ _ (c .before .before .before .part .ensures .bytes) (c .before .before .checksum .ensures) (c .before .byte-at .ensures) (search needs) in
+    let sealed = sum-stands (c .before .before .before .before .before .before .before .before .before .before .before .args .t .now) _ _ _ (c .before .before .before .part .ensures .bytes) (c .before .before .checksum .ensures) _ (c .before .byte-at .ensures) (search needs) in
     pass4 (c .before .before .before .before) ∙ rw (← c .before .before .before .before .before .before .length-of .ensures, eq-eqb _ _ (sealed .0 (c .if5 .left)))
 
 pass6 : (c : tie.Else6) → Passed (tests (c .before .before .before .before .before .before .before .before .before .before .before .before .before)) 6
@@ -62,12 +64,14 @@ returns-4 c = c .refuse4 .ensures ∙ sym (pass3 (c .before .before) ∙ rw (lt-
 returns-5 : tie.Need-returns-5
 unfolding firstOf headerTests
 returns-5 c =
-    let sealed = sum-stands (c .before .before .before .before .before .before .before .before .before .before .before .before .args .t .now) _ _ _ _ (c .before .before .before .before .part .ensures .bytes) (c .before .before .before .checksum .ensures) (c .before .before .byte-at .ensures) (search needs) in
-    c .refuse5 .ensures ∙ sym (pass4 (c .before .before .before .before .before) ∙ rw (← c .before .before .before .before .before .before .before .length-of .ensures, ne-eqb _ _ (λ z. c .before .if5 .taken (sealed .1 z))))
+    let table = c .before .before .before .before .before .before .before .before .before .before .before .before .args .t .now in
+    let sealed = sum-stands table _ _ _ (c .before .before .before .before .part .ensures .bytes) (c .before .before .before .checksum .ensures) _ (c .before .before .byte-at .ensures) (search needs) in
+    let right = sum-tells table _ _ _ (c .before .before .before .before .part .ensures .bytes) (c .before .before .before .checksum .ensures) in
+    c .refuse-with .ensures ∙ ap (λ (b : ℕ). Refused (record { number = 6; place = 9; checksum = b })) right ∙ sym (pass4 (c .before .before .before .before .before) ∙ rw (← c .before .before .before .before .before .before .before .length-of .ensures, ne-eqb _ _ (λ z. c .before .if5 .taken (sealed .1 z))))
 
 returns-6 : tie.Need-returns-6
 unfolding firstOf headerTests
-returns-6 c = c .refuse6 .ensures ∙ sym (pass5 (c .before .before .before) ∙ rw (ne-eqb (byte (c .before .before .before .before .before .before .before .before .before .before .before .before .before .before .args .t .now) 8) 1 (omega arith)))
+returns-6 c = c .refuse5 .ensures ∙ sym (pass5 (c .before .before .before) ∙ rw (ne-eqb (byte (c .before .before .before .before .before .before .before .before .before .before .before .before .before .before .args .t .now) 8) 1 (omega arith)))
 
 returns-7 : tie.Need-returns-7
 unfolding firstOf headerTests

@@ -1,0 +1,21 @@
+-- A refusal as a line of text (RULES.md, Show). Assumes nothing: these are definitions.
+use Prim.Native.Nat.{ℕ}
+use Prim.Native.Char.{code}
+use mathlib.Core.Bool.{cond}
+use mathlib.Core.List.{List, [], _∷_, _++_}
+use lib.Dec.{eqb}
+use Rattle.text.specs.Put.{ascii}
+use Rattle.notation.specs.Number.{digits}
+use Rattle.table_header.specs.declared.verdict.Refusal.{Refusal}
+
+-- a space and a number in decimal digits
+abbrev pub nextNumber : ℕ → List ℕ
+nextNumber n = code " " ∷ digits 10 n
+
+-- the checksum byte, be it 0, with 6; with any other number it is not told
+unfoldable pub checksumText : Refusal → List ℕ
+checksumText r = cond (eqb (r .number) 6) (nextNumber (r .checksum)) []
+
+-- the word, the number, the place, the checksum byte, a line feed
+unfoldable pub refusalText : Refusal → List ℕ
+refusalText r = ascii "refused" ++ (nextNumber (r .number) ++ (nextNumber (r .place) ++ (checksumText r ++ (10 ∷ []))))
