@@ -1,0 +1,9 @@
+pub mod OrderLaws
+pub mod UnequalLaws
+pub mod SlotWithLaws
+pub mod PairLaws
+pub mod SameLaws
+pub mod WalkLaws
+pub mod PointLaws
+pub mod LeafLaws
+pub mod CompareLaws
