@@ -5,6 +5,7 @@
 //! the compiler can neither inline the callee nor know that a second call answers the same.
 
 mod benchmark_build;
+mod benchmark_compare;
 mod benchmark_families;
 mod benchmark_rebuild;
 #[allow(dead_code)] // compare.rs uses all of it
@@ -20,6 +21,8 @@ mod seeded;
 #[allow(dead_code)]
 mod table_maker;
 mod twin_check;
+#[allow(dead_code)] // the view, which is not timed
+mod twin_compare;
 mod twin_families;
 mod twins;
 
@@ -214,5 +217,6 @@ fn main() {
     measure_checks_with_extras();
     benchmark_build::measure_builds();
     benchmark_rebuild::measure_rebuilds();
+    benchmark_compare::measure_compares();
     benchmark_families::measure_families();
 }

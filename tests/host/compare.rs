@@ -1,10 +1,10 @@
-//! Compares what the static libraries and the programs `show`, `tell`, `enter`, `find` and `rebuild`
-//! answer with independent readings of RULES.md and docs/RECORD-FORMAT.md, on seeded inputs. Prints
-//! how often each answer was met; exits 1 at the first difference.
+//! Compares what the static libraries and the programs `show`, `tell`, `enter`, `find`, `rebuild` and
+//! `compare` answer with independent readings of RULES.md and docs/RECORD-FORMAT.md, on seeded inputs.
+//! Prints how often each answer was met; exits 1 at the first difference.
 //!
 //! The readings are the files model_*.rs, written from the documents alone; a call that is exported
 //! later gets its reading and its comparison beside these. The environment variables SHOW, TELL,
-//! ENTER, FIND and REBUILD name the programs.
+//! ENTER, FIND, REBUILD and COMPARE name the programs.
 
 mod build_causes;
 mod build_refusals;
@@ -13,6 +13,8 @@ mod causes;
 mod compare_build;
 mod compare_check;
 mod compare_checksum;
+mod compare_difference_texts;
+mod compare_differences;
 mod compare_families;
 mod compare_family_scans;
 mod compare_family_text;
@@ -30,6 +32,9 @@ mod compare_tail;
 mod compare_text;
 mod compare_views;
 mod compare_wipe;
+mod difference_sights;
+mod draft_edits;
+mod drafts;
 mod family_damage;
 mod family_maker;
 mod family_refusals;
@@ -38,6 +43,7 @@ mod field_maker;
 mod good_records;
 mod good_tables;
 mod known_builds;
+mod known_differences;
 mod known_extras;
 mod known_rebuilds;
 mod known_sums;
@@ -53,6 +59,8 @@ mod model_answer;
 mod model_build;
 mod model_check;
 mod model_checksum;
+mod model_compare;
+mod model_compare_text;
 mod model_enter_tell;
 mod model_family_text;
 mod model_header;
@@ -69,6 +77,7 @@ mod model_scan;
 mod model_show;
 mod model_tail;
 mod model_text;
+mod pair_shapes;
 mod rebuild_shapes;
 mod rebuild_sights;
 mod record_damage;
@@ -111,6 +120,8 @@ fn main() {
         && compare_family_writes::compare()
         && compare_sum::compare()
         && compare_sum_programs::compare()
+        && compare_differences::compare()
+        && compare_difference_texts::compare()
         && compare_family_text::compare();
     if !all_agree {
         std::process::exit(1);

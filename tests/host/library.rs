@@ -71,4 +71,24 @@ extern "C" {
     pub fn test_sbft_part_view(table: *const u8, size: usize, part: u8, out: *mut u8, out_size: usize) -> usize;
     pub fn test_address_kind(address: *const u8, size: usize) -> u64;
     pub fn test_pci(word: u16) -> u64;
+
+    pub fn test_compare(left: *const u8, left_size: usize, right: *const u8, right_size: usize) -> u64;
+    pub fn test_difference(
+        left: *const u8,
+        left_size: usize,
+        right: *const u8,
+        right_size: usize,
+        k: u16,
+        out: *mut u8,
+        out_size: usize,
+    ) -> u64;
+    pub fn test_difference_view(
+        left: *const u8,
+        left_size: usize,
+        right: *const u8,
+        right_size: usize,
+        k: u16,
+        out: *mut u8,
+        out_size: usize,
+    ) -> usize;
 }

@@ -359,6 +359,7 @@ int main(void)
     measure_checks();
     measure_builds();
     measure_rebuilds();
+    measure_compares();
     measure_readings();
     measure_families();
     measure_host_name("host name, 255 bytes with 127 dots", 255);

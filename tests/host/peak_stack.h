@@ -36,6 +36,7 @@ void expect_length(size_t length, size_t expected);
 
 void measure_builds(void);
 void measure_rebuilds(void);
+void measure_compares(void);
 void measure_readings(void);
 void measure_families(void);
 

@@ -16,6 +16,14 @@ nextNumber n = code " " ∷ digits 10 n
 unfoldable pub checksumText : Refusal → List ℕ
 checksumText r = cond (eqb (r .number) 6) (nextNumber (r .checksum)) []
 
--- the word, the number, the place, the checksum byte, a line feed
+-- the word, the number, the place, the checksum byte
+unfoldable pub refusalWords : Refusal → List ℕ
+refusalWords r = ascii "refused" ++ (nextNumber (r .number) ++ (nextNumber (r .place) ++ checksumText r))
+
+-- the line: these, a line feed
 unfoldable pub refusalText : Refusal → List ℕ
-refusalText r = ascii "refused" ++ (nextNumber (r .number) ++ (nextNumber (r .place) ++ (checksumText r ++ (10 ∷ []))))
+refusalText r = refusalWords r ++ (10 ∷ [])
+
+-- .. of a refusal of one of two tables: which of them stands last
+unfoldable pub sideRefusalText : Refusal → ℕ → List ℕ
+sideRefusalText r side = refusalWords r ++ (nextNumber side ++ (10 ∷ []))

@@ -2,7 +2,7 @@
 -- endian, of each string its length and offset words. Assumes nothing: these are definitions.
 use Prim.Native.Nat.{ℕ}
 use mathlib.Core.List.{List, [], _∷_, _++_}
-use Rattle.octets.specs.Octets.{le16, le64}
+use Rattle.octets.specs.Octets.{le16, le32, le64}
 use Rattle.abft.specs.declared.reading.Abft.{Abft}
 use Rattle.sbft.specs.declared.reading.Start.{Start}
 use Rattle.sbft.specs.declared.reading.Scsi.{Scsi}
@@ -13,6 +13,10 @@ use Rattle.ibft_table.specs.declared.header.Header.{Header}
 use Rattle.ibft_table.specs.declared.initiator.Initiator.{Initiator}
 use Rattle.ibft_table.specs.declared.nic.Nic.{Nic}
 use Rattle.ibft_table.specs.declared.target.Target.{Target}
+use Rattle.ibft_compare.specs.declared.difference.Difference.{Difference}
+use Rattle.ibft_compare.specs.declared.difference.Difference.the-variants.{Nothing, OemId, OemTableId, ControlFlags, Presence, Field, Entry}
+use Rattle.ibft_compare.specs.declared.difference.Stretch.{Stretch}
+use Rattle.ibft_compare.specs.declared.difference.DifferenceReading.{DifferenceReading}
 
 abbrev pub laidText : Text → List ℕ
 laidText s = le16 (s .length) ++ le16 (s .offset)
@@ -75,3 +79,27 @@ laidSrp s = s .«initiator_port» ++ s .«target_port»
 
 unfoldable pub laidIb : Ib → List ℕ
 laidIb i = i .«source_gid» ++ (i .«destination_gid» ++ (i .service ++ le16 (i .«partition_key»)))
+
+-- ---- a difference of two tables
+
+-- the number of what differs, the structure's ID and Index, and where it stands in the structure
+abbrev pub laidName : ℕ → ℕ → ℕ → ℕ → List ℕ
+laidName number id index at = number ∷ id ∷ index ∷ le16 at
+
+-- what differs; whatever it is not named by is 0
+unfoldable pub laidWhat : Difference → List ℕ
+laidWhat Nothing = laidName 0 0 0 0
+laidWhat OemId = laidName 1 0 0 0
+laidWhat OemTableId = laidName 2 0 0 0
+laidWhat ControlFlags = laidName 3 0 0 0
+laidWhat (Presence id index) = laidName 4 id index 0
+laidWhat (Field id index at) = laidName 5 id index at
+laidWhat (Entry id index at) = laidName 6 id index at
+
+-- where it starts and how many bytes it has
+abbrev pub laidStretch : Stretch → List ℕ
+laidStretch s = le32 (s .start) ++ le16 (s .length)
+
+-- what differs, where each table has it, and what is shown of it
+unfoldable pub laidDifference : DifferenceReading → List ℕ
+laidDifference d = laidWhat (d .difference) ++ (laidStretch (d .left) ++ (laidStretch (d .right) ++ laidStretch (d .shown)))

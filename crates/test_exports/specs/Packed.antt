@@ -9,6 +9,7 @@ use Rattle.ibft_table.specs.declared.structure.StructureReading.{StructureReadi
 use Rattle.ibft_table.specs.declared.entry.EntryReading.{EntryReading}
 use Rattle.ibft_table.specs.declared.login.LoginOrder.{LoginOrder}
 use Rattle.ibft_table.specs.declared.pci.Pci.{Pci}
+use Rattle.ibft_compare.specs.declared.difference.Compared.{Compared}
 
 -- number and place
 abbrev pub packedPlace : Refusal → ℕ
@@ -17,6 +18,14 @@ packedPlace r = r .number + 2 ^ 8 * (r .place % 2 ^ 24)
 -- and the checksum byte
 abbrev pub packedRefusal : Refusal → ℕ
 packedRefusal r = packedPlace r + 2 ^ 32 * r .checksum
+
+-- and, of two tables, whose it is, from bit 40 on: 0 the left one's, 1 the right one's
+abbrev pub packedSide : Refusal → ℕ → ℕ
+packedSide r side = packedRefusal r + 2 ^ 40 * side
+
+-- and how many differences they have, from bit 48 on
+abbrev pub packedCompared : Compared → ℕ
+packedCompared c = packedSide (c .refusal) (c .side) + 2 ^ 48 * c .count
 
 -- ID, start and flags from bits 32, 40 and 56 on
 abbrev pub packedStructure : StructureReading → ℕ

@@ -14,7 +14,7 @@ ghost use Prim.Native.Nat.{_<_, _^_};
 ghost use Rattle.octets.specs.Octets.{word64, bytesAt};
 ghost use Rattle.ibft_table.specs.Readings.{structureOf, entryOf, addressKindOf, addressNumber, pciOf};
 ghost use Rattle.ibft_table.specs.Login.{loginOrderOf};
-ghost use Rattle.test_exports.specs.Packed.{packedPlace, packedRefusal, packedStructure, packedOrder, packedEntryPlace, packedPci};
+ghost use Rattle.test_exports.specs.Packed.{packedPlace, packedRefusal, packedSide, packedStructure, packedOrder, packedEntryPlace, packedPci};
 
 // Number and place of a refusal.
 fn packed_place(refusal: Refusal) -> u64
@@ -28,6 +28,13 @@ pub(crate) fn packed_refusal(refusal: Refusal) -> u64
     ensures { λ r. ⌜ r ≡ packedRefusal refusal ⌝ }
 {
     packed_place(refusal) + 4294967296 * refusal.checksum as u64
+}
+
+// The same of a refusal of one of two tables, and whose it is.
+pub(crate) fn packed_side(refusal: Refusal, side: u8) -> u64
+    ensures { λ r. ⌜ (r ≡ packedSide refusal side) × (r < 2 ^ 48) ⌝ }
+{
+    packed_place(refusal) + 4294967296 * refusal.checksum as u64 + 1099511627776 * side as u64
 }
 
 #[no_mangle]

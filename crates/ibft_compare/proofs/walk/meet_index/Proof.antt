@@ -1,8 +1,8 @@
 -- `meet_index` meets its contract: there is a pair where a table has the extra. Assumes nothing.
-use mathlib.Core.Path.{refl, sym, _∙_}
+use mathlib.Core.Path.{_≡_, refl, sym, _∙_}
 use mathlib.Core.List.{append-nil}
 use native.Mathlib.Omega.{arith}
-use Rattle.ibft_compare.specs.Pairs.{pairWith}
+use Rattle.ibft_compare.specs.Pairs.{slotWith, pairWith}
 use Rattle.ibft_compare.specs.Points.{each}
 use Rattle.ibft_compare.specs.Walk.{walked}
 use Rattle.ibft_compare.proofs.PairLaws.{group-ends, seat-with, pair-none, pair-some}
@@ -20,8 +20,8 @@ returns : tie.Need-returns
 unfolding pairWith each walked
 returns c =
     let a = c .before .before .before .before .before .before .before .before .before .before .args in
-    let l = c .before .before .before .slot-with .ensures in
-    let r = c .before .before .slot-with2 .ensures in
+    let l : c .before .before .before .slot-with .result ≡ slotWith (a .li .now) (a .group) (a .index) = c .before .before .before .slot-with .ensures in
+    let r : c .before .before .slot-with2 .result ≡ slotWith (a .ri .now) (a .group) (a .index) = c .before .before .slot-with2 .ensures in
     let none = pair-none (a .group) (a .index) (c .before .before .before .slot-with .result) (c .before .before .slot-with2 .result) (sym (c .before .is-none .ensures) ∙ c .if1 .taken) in
     (rw (← l, ← r, none) refl, omega arith)
 
@@ -42,8 +42,8 @@ returns-2 : tie.Need-returns-2
 unfolding pairWith each
 returns-2 c =
     let a = c .before .before .before .before .before .before .before .before .before .before .before .args in
-    let l = c .before .before .before .before .slot-with .ensures in
-    let r = c .before .before .before .slot-with2 .ensures in
+    let l : c .before .before .before .before .slot-with .result ≡ slotWith (a .li .now) (a .group) (a .index) = c .before .before .before .before .slot-with .ensures in
+    let r : c .before .before .before .slot-with2 .result ≡ slotWith (a .ri .now) (a .group) (a .index) = c .before .before .before .slot-with2 .ensures in
     let some = pair-some (a .group) (a .index) (c .before .before .before .before .slot-with .result) (c .before .before .before .slot-with2 .result) (sym (c .before .before .is-none .ensures) ∙ c .before .if1 .left) in
     (rw (← l, ← r, some, append-nil) (c .meet-pair .ensures .0), c .meet-pair .ensures .1)
 

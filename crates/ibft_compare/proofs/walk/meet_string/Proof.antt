@@ -27,10 +27,14 @@ add-n c =
     let s = c .before .before .before .before .before .before .before .before .before .before .before in
     omega (arith, c .first-entry .ensures, first-low (s .args .pair .group) (s .args .pair .left) (s .pre .1 .left))
 
+-- (whichever of the two slots it is)
 add-m : tie.Need-add-m
 add-m c =
     let s = c .before .before .before .before .before .before .before .before .before .before .before .before in
-    omega (arith, c .first-entry2 .ensures, first-low (s .args .pair .group) (s .args .pair .right) (s .pre .1 .right))
+    let p = s .args .pair in
+    let l = first-low (p .group) (p .left) (s .pre .1 .left) in
+    let r = first-low (p .group) (p .right) (s .pre .1 .right) in
+    omega (arith, c .first-entry2 .ensures, l, r)
 
 add-string-of : tie.Need-add-string-of
 add-string-of c =
