@@ -46,7 +46,7 @@ fn compare_by(contender: usize, pair: &Pair) -> u64 {
     }
 }
 
-/// All differences, from the first to the one behind the last: their digests together.
+/// All differences, from the first to the last: their digests together.
 fn walk_by_number(contender: usize, pair: &Pair, count: u16) -> u64 {
     let mut digests = 0u64;
     let mut out = [0; LAID_SIZE];

@@ -171,14 +171,13 @@ impl DifferenceSights {
     }
 
     fn see_order(&mut self, list: &[Difference]) {
-        let groups: Vec<Group> = list.iter().filter_map(|d| group_of(&d.what)).collect();
+        let groups: Vec<Group> = list.iter().filter_map(|d| field_group(&d.what)).collect();
         let is_later = |presence: &Difference| match presence.what {
             What::Presence(late) => groups.iter().any(|early| comes_before(early, &late)),
             _ => false,
         };
-        let has_field = list.iter().any(|d| matches!(d.what, What::Field(..)));
         let sight = "presence of a later structure before a field";
-        self.see(sight, has_field && list.iter().any(is_later));
+        self.see(sight, list.iter().any(is_later));
     }
 
     /// A NIC and a target with the same Index: an extra of the one kind is not taken for the other.
@@ -285,17 +284,17 @@ impl DifferenceSights {
 /// ID and Index.
 type Name = (u64, u64);
 
-fn group_of(what: &What) -> Option<Group> {
+/// The structure of a field that differs.
+fn field_group(what: &What) -> Option<Group> {
     match what {
-        What::Field(group, _) | What::Text(group, _) => Some(*group),
+        What::Field(group, _) => Some(*group),
         _ => None,
     }
 }
 
-/// In the order of the list, of two of one kind or of two extras.
+/// In the order of the list.
 fn comes_before(early: &Group, late: &Group) -> bool {
-    let key = |group: &Group| (group.is_extra(), group.kind.id, group.index);
-    early.is_extra() == late.is_extra() && key(early) < key(late)
+    turn(early) < turn(late)
 }
 
 /// The number of the slot that a structure has in a table.

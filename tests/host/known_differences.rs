@@ -278,12 +278,12 @@ fn hidden_lines_hold() -> bool {
         left, right, lines, ..
     } = all_kinds();
     let lines = lines
-        .replace("chap-secret \"\"\t", "chap-secret\t")
-        .replace("reverse-secret hush\t", "reverse-secret\t");
+        .replace("target0.chap-secret \"\"\t", "# target0.chap-secret\t")
+        .replace("target0.reverse-secret hush\t", "# target0.reverse-secret\t");
     let secret = |text: &[u8]| with_texts(&[2], &[(4, text)]).mended();
     let both = compare_text(&secret(b"abc").bytes, &secret(b"abd").bytes, true);
     let hidden = compare_text(left.lent_bytes(), right.lent_bytes(), true);
-    let holds = hidden == lines && both == "target0.chap-secret\tdiffers, hidden\n1 difference\n";
+    let holds = hidden == lines && both == "# target0.chap-secret\tdiffers, hidden\n1 difference\n";
     if !holds {
         println!("differences: with secrets hidden\n{}{}", hidden, both);
     }

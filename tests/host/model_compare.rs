@@ -128,7 +128,8 @@ fn names_in_order(left: &Side, right: &Side) -> Vec<Group> {
     names
 }
 
-fn turn(name: &Group) -> (u64, u64) {
+/// Where a structure stands in that order.
+pub fn turn(name: &Group) -> (u64, u64) {
     match (name.kind.id, name.index) {
         (2, _) => (0, 0),
         (3, 0) => (1, 0),

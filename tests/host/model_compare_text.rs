@@ -35,7 +35,7 @@ fn line(difference: &Difference, (left, right): (&[u8], &[u8]), hides_secrets: b
     let written = |value: &[u8]| field.notation.written(value);
     let name = &field.name;
     match (has_left, has_right) {
-        (true, true) if hides => format!("{}\tdiffers, hidden", name),
+        (true, true) if hides => format!("# {}\tdiffers, hidden", name),
         (true, true) => {
             let values = format!("{} {}\t| {}", name, written(left), written(right));
             match difference.what {
@@ -43,7 +43,7 @@ fn line(difference: &Difference, (left, right): (&[u8], &[u8]), hides_secrets: b
                 _ => values,
             }
         }
-        (has_left, _) if hides => format!("{}\t{}", name, only_in(has_left)),
+        (has_left, _) if hides => format!("# {}\t{}", name, only_in(has_left)),
         (has_left, _) => {
             let value = if has_left { left } else { right };
             format!("{} {}\t{}", name, written(value), only_in(has_left))

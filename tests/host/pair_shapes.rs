@@ -107,24 +107,28 @@ fn same_laid_twice(n: usize, seeded: &mut Seeded) -> Pair {
     pair(seeded, one, other, Some(0))
 }
 
-/// As the library rebuilds it; a table with a zero byte in a string, which cannot be, is laid in another way.
-fn rebuilt_by_library(seeded: &mut Seeded, table: &Table) -> Table {
+/// As the library rebuilds it; none for a table with a zero byte in a string, the one refusal that an accepted table can get.
+fn rebuilt_by_library(table: &Table) -> Option<Table> {
     let mut room = vec![0xA5; 16_384];
     let answer =
         unsafe { library::ibft_rebuild(table.bytes.as_ptr(), table.lent, room.as_mut_ptr(), room.len()) };
-    match answer % (1 << 32) {
+    match answer % (1 << 8) {
         0 => {
             room.truncate((answer >> 32) as usize);
-            given(room)
+            Some(given(room))
         }
-        _ => laid(seeded, &Draft::of(table.lent_bytes())),
+        20 => None,
+        number => panic!("a table that is accepted is not rebuilt: {number}"),
     }
 }
 
 fn same_rebuilt(_: usize, seeded: &mut Seeded) -> Pair {
     let make = seeded.one_of(&[lent_table as fn(&mut Seeded) -> Table, table_with_extras]);
     let table = make(seeded);
-    let rebuilt = rebuilt_by_library(seeded, &table);
+    let rebuilt = match rebuilt_by_library(&table) {
+        Some(rebuilt) => rebuilt,
+        None => laid(seeded, &Draft::of(table.lent_bytes())),
+    };
     pair(seeded, table, rebuilt, Some(0))
 }
 
@@ -147,8 +151,8 @@ fn samples(n: usize, _: &mut Seeded) -> Pair {
     }
 }
 
-fn sample_rebuilt(n: usize, seeded: &mut Seeded) -> Pair {
-    let rebuilt = rebuilt_by_library(seeded, &sample(n));
+fn sample_rebuilt(n: usize, _: &mut Seeded) -> Pair {
+    let rebuilt = rebuilt_by_library(&sample(n)).expect("no sample has a zero byte in a string");
     Pair {
         left: sample(n),
         right: rebuilt,

@@ -120,27 +120,6 @@ pub unsafe extern "C" fn rust_difference(
     refusal
 }
 
-pub unsafe extern "C" fn rust_difference_view(
-    left: *const u8,
-    left_size: usize,
-    right: *const u8,
-    right_size: usize,
-    k: u16,
-    out: *mut u8,
-    out_size: usize,
-) -> usize {
-    let mut shown = (0, 0);
-    numbered(left, left_size, right, right_size, k, |difference| {
-        shown = difference.shown;
-    });
-    let (start, length) = shown;
-    let size = out_size.min(length);
-    if size > 0 {
-        from_raw_parts_mut(out, size).copy_from_slice(from_raw_parts(left.add(start), size));
-    }
-    length
-}
-
 /// All differences laid one after another in one walk: the digests of them together.
 pub unsafe extern "C" fn rust_walk(
     left: *const u8,

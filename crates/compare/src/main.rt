@@ -24,7 +24,9 @@ const STDERR: i32 = 2;
 // As much of a table as `show` looks at.
 const LONGEST_TABLE: usize = 16384;
 
-// The line feed behind the size is one of the first bytes.
+// The largest size that is read as a number, and the line feed behind it is one of the first bytes.
+const LARGEST_SIZE: u64 = 4294967295;
+
 const LONGEST_SIZE_LINE: usize = 16;
 
 fn print(text: &[u8]) {
@@ -43,7 +45,7 @@ fn print_refusal(refusal: Refusal, side: u8) {
     print(part(&room, 0, end));
 }
 
-// (No line is longer than the room: no field and no string of an accepted table has more than 255 bytes.)
+// (No line is longer than the room, since no field and no string of an accepted table has more than 255 bytes: `line-fits`.)
 fn print_difference(left: &[u8], right: &[u8], k: u16, hide: bool) {
     let mut room = [0u8; LINE_SIZE];
     let end = put_difference(&mut room, 0, left, right, difference(left, right, k), hide);
@@ -88,15 +90,19 @@ fn say_no_size() {
     say(b"compare: the input does not start with the size of the left table\n");
 }
 
+fn say_too_long() {
+    say(b"compare: a table has more than 16384 bytes\n");
+}
+
 // The tables, one behind the other, of which the left one has so many bytes.
 fn compare_behind(tables: &[u8], size: usize, hide: bool) {
     if tables.len() < size {
-        say_no_size();
+        say(b"compare: the left table has fewer bytes than its size says\n");
         return;
     }
     let right = part(tables, size, tables.len());
     if LONGEST_TABLE < right.len() {
-        say(b"compare: a table has more than 16384 bytes\n");
+        say_too_long();
         return;
     }
     compare_tables(part(tables, 0, size), right, hide);
@@ -109,10 +115,14 @@ fn compare_input(input: &[u8], hide: bool) {
         say_no_size();
         return;
     }
-    let Number::Value(size) = read_number(LONGEST_TABLE as u64, part(first, 0, end)) else {
+    let Number::Value(size) = read_number(LARGEST_SIZE, part(first, 0, end)) else {
         say_no_size();
         return;
     };
+    if (LONGEST_TABLE as u64) < size {
+        say_too_long();
+        return;
+    }
     compare_behind(part(input, end + 1, input.len()), size as usize, hide);
 }
 

@@ -14,16 +14,16 @@ use Rattle.record_text.specs.Fields.{isSecret}
 use Rattle.record_text.specs.declared.fields.FieldName.{FieldName}
 use Rattle.ibft_compare.specs.declared.difference.Difference.{Difference}
 use Rattle.ibft_compare.specs.declared.difference.DifferenceReading.{DifferenceReading}
-use Rattle.difference_text.specs.DifferenceText.{hiddenWords, nameText, bytesIn, isHidden, withValue, bothValues, onlyIn, shownText, fieldLine, heldLine, differsLine, entryLine, lineOf, differenceText}
+use Rattle.difference_text.specs.DifferenceText.{hiddenWords, hiddenName, bytesIn, isHidden, withValue, bothValues, onlyIn, shownText, fieldLine, heldLine, differsLine, entryLine, lineOf, differenceText}
 
 module _ (f : FieldName) (bytes : List ℕ) (right : Bool) where
-  pub held-hidden : (secret : Bool) → secret ≡ true → nameText f ++ onlyIn right ≡ heldLine secret f bytes right
+  pub held-hidden : (secret : Bool) → secret ≡ true → hiddenName f ++ onlyIn right ≡ heldLine secret f bytes right
   unfolding heldLine
-  held-hidden secret e = sym (ap (λ (b : Bool). cond b (nameText f) (withValue f bytes) ++ onlyIn right) e)
+  held-hidden secret e = sym (ap (λ (b : Bool). cond b (hiddenName f) (withValue f bytes) ++ onlyIn right) e)
 
   pub held-told : (secret : Bool) → secret ≡ false → withValue f bytes ++ onlyIn right ≡ heldLine secret f bytes right
   unfolding heldLine
-  held-told secret e = sym (ap (λ (b : Bool). cond b (nameText f) (withValue f bytes) ++ onlyIn right) e)
+  held-told secret e = sym (ap (λ (b : Bool). cond b (hiddenName f) (withValue f bytes) ++ onlyIn right) e)
 
 module _ (f : FieldName) (left right : List ℕ) (d : DifferenceReading) where
   pub field-told : (x y : List ℕ) → x ≡ bytesIn left (d .left) → y ≡ bytesIn right (d .right)
@@ -31,7 +31,7 @@ module _ (f : FieldName) (left right : List ℕ) (d : DifferenceReading) where
   unfolding fieldLine
   field-told x y p q = rw (p, q)
 
-  pub differs-hidden : (secret : Bool) → secret ≡ true → nameText f ++ hiddenWords ≡ differsLine secret f left right d
+  pub differs-hidden : (secret : Bool) → secret ≡ true → hiddenName f ++ hiddenWords ≡ differsLine secret f left right d
   unfolding differsLine
   differs-hidden secret e = rw e
 

@@ -43,7 +43,8 @@ use Rattle.ibft_compare.specs.declared.difference.Difference.{Difference}
 use Rattle.ibft_compare.specs.declared.difference.Difference.the-variants.{Nothing, OemId, OemTableId, ControlFlags, Presence, Field, Entry}
 use Rattle.ibft_compare.specs.declared.difference.Stretch.{Stretch}
 use Rattle.ibft_compare.specs.declared.difference.DifferenceReading.{DifferenceReading}
-use Rattle.difference_text.specs.DifferenceText.{bar, hiddenWords, oemId, oemTableId, controlFlags, structure, nameText, bytesIn, isAbsent, isHidden, valueOf, fieldAt, withValue, bothValues, onlyIn, shownText, fieldLine, presenceLine, heldLine, differsLine, entryLine, lineOf, differenceText}
+use Rattle.text.specs.Put.{ascii}
+use Rattle.difference_text.specs.DifferenceText.{bar, hiddenWords, oemId, oemTableId, controlFlags, structure, nameText, hiddenName, bytesIn, isAbsent, isHidden, valueOf, fieldAt, withValue, bothValues, onlyIn, shownText, fieldLine, presenceLine, heldLine, differsLine, entryLine, lineOf, differenceText}
 
 -- ---- words
 
@@ -267,16 +268,20 @@ module _
     field-most =
         omega (arith, length-append (bothValues f (bytesIn left (d .left)) (bytesIn right (d .right))) (10 ∷ []), both-most)
 
+    hidden-most : length (hiddenName f) ≤ 2 + length (nameText f)
+    unfolding hiddenName tabulate
+    hidden-most = omega (arith, length-append (ascii "# ") (nameText f))
+
     held-most : (secret : Bool) (t : List ℕ) (s : Stretch) (side : Bool) → Bytes t → s .length ≤ 255
         → length (heldLine secret f (bytesIn t s) side) ≤ 4096
     unfolding heldLine
-    held-most true t s side b h = omega (arith, length-append (nameText f) (onlyIn side), name-most f small, only-most side)
+    held-most true t s side b h = omega (arith, length-append (hiddenName f) (onlyIn side), hidden-most, name-most f small, only-most side)
     held-most false t s side b h =
         omega (arith, length-append (withValue f (bytesIn t s)) (onlyIn side), with-most t s b h, only-most side)
 
     differs-most : (secret : Bool) → length (differsLine secret f left right d) ≤ 4096
     unfolding differsLine tabulate
-    differs-most true = omega (arith, length-append (nameText f) hiddenWords, name-most f small)
+    differs-most true = omega (arith, length-append (hiddenName f) hiddenWords, hidden-most, name-most f small)
     differs-most false =
         let n = d .shown .start - d .left .start in
         let low : n < 2 ^ 32 = omega (arith, short .start) in

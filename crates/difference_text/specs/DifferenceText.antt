@@ -1,6 +1,6 @@
--- A difference between two tables as a line of text, in the words of the record (docs/RECORD-FORMAT.md). A line names what
--- differs and gives its value in the left table and in the right one, or says which of them alone has it, with tabs between.
--- Assumes nothing: these are definitions.
+-- A difference between two tables as a line of text (RULES.md, Compare), in the words of the record (docs/RECORD-FORMAT.md). A
+-- line names what differs and gives its value in the left table and in the right one, or says which of them alone has it, with
+-- tabs between. Assumes nothing: these are definitions.
 use Prim.Native.Nat.{ℕ, _-_}
 use Prim.Native.Char.{code}
 use mathlib.Core.Bool.{Bool, true, false, cond, _&&_}
@@ -64,6 +64,10 @@ structure id index = record { kind = id; index = index; field = fieldCount id }
 abbrev pub nameText : FieldName → List ℕ
 nameText f = nameOf (f .kind) (f .index) (f .field)
 
+-- .. of a secret to hide, with a mark before it: a line that gives no value is a comment for who enters it
+unfoldable pub hiddenName : FieldName → List ℕ
+hiddenName f = ascii "# " ++ nameText f
+
 -- ---- pieces of a line
 
 -- the bytes of a stretch of a table
@@ -106,12 +110,12 @@ presenceLine id index d = nameText (structure id index) ++ onlyIn (isAbsent (d .
 
 -- an entry that one table has: its name alone where it is a secret to hide
 unfoldable pub heldLine : Bool → FieldName → List ℕ → Bool → List ℕ
-heldLine secret f bytes right = cond secret (nameText f) (withValue f bytes) ++ onlyIn right
+heldLine secret f bytes right = cond secret (hiddenName f) (withValue f bytes) ++ onlyIn right
 
 -- an entry that both have: of a secret to hide neither value nor bytes
 unfoldable pub differsLine : Bool → FieldName → List ℕ → List ℕ → DifferenceReading → List ℕ
 differsLine secret f left right d =
-    cond secret (nameText f ++ hiddenWords)
+    cond secret (hiddenName f ++ hiddenWords)
     (bothValues f (bytesIn left (d .left)) (bytesIn right (d .right))
     ++ shownText (d .shown .start - d .left .start) (bytesIn left (d .shown)))
 

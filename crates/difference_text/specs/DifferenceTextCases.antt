@@ -14,7 +14,7 @@ use Rattle.ibft_compare.specs.declared.difference.Difference.{Difference}
 use Rattle.ibft_compare.specs.declared.difference.Difference.the-variants.{Nothing, OemId, OemTableId, ControlFlags, Presence, Field, Entry}
 use Rattle.ibft_compare.specs.declared.difference.Stretch.{Stretch}
 use Rattle.ibft_compare.specs.declared.difference.DifferenceReading.{DifferenceReading}
-use Rattle.difference_text.specs.DifferenceText.{fieldNumber, withValue, bothValues, onlyIn, shownText, fieldLine, presenceLine, heldLine, differsLine, entryLine, lineOf, differenceText}
+use Rattle.difference_text.specs.DifferenceText.{fieldNumber, hiddenName, withValue, bothValues, onlyIn, shownText, fieldLine, presenceLine, heldLine, differsLine, entryLine, lineOf, differenceText}
 
 -- ---- tables made for it: the bytes that differ stand at 8
 
@@ -88,18 +88,18 @@ cases =
     ∷ inLeft (Entry 2 0 70) (ascii "iqn") "initiator.name iqn\tonly in LEFT\n" "initiator.name iqn\tonly in LEFT\n"
     -- secrets: one that both have, one that is empty, one that the right table has
     ∷ entry (Entry 4 0 42) (ascii "tin7") (ascii "tan7") (stretch 9 3) "target0.chap-secret tin7\t| tan7\tfrom byte 1: in7\n"
-    "target0.chap-secret\tdiffers, hidden\n"
-    ∷ inLeft (Entry 4 0 50) [] "target0.reverse-secret \"\"\tonly in LEFT\n" "target0.reverse-secret\tonly in LEFT\n"
-    ∷ inRight (Entry 4 1 42) (ascii "tin7") "target1.chap-secret tin7\tonly in RIGHT\n" "target1.chap-secret\tonly in RIGHT\n"
+    "# target0.chap-secret\tdiffers, hidden\n"
+    ∷ inLeft (Entry 4 0 50) [] "target0.reverse-secret \"\"\tonly in LEFT\n" "# target0.reverse-secret\tonly in LEFT\n"
+    ∷ inRight (Entry 4 1 42) (ascii "tin7") "target1.chap-secret tin7\tonly in RIGHT\n" "# target1.chap-secret\tonly in RIGHT\n"
     ∷ field Nothing [] [] ""
     ∷ []
 
 all-told : map (λ (c : Case). differenceText false (c .left) (c .right) (c .reading)) cases
     ≡ map (λ (c : Case). ascii (c .whole)) cases
-unfolding computing first fieldNumber withValue bothValues onlyIn shownText fieldLine presenceLine heldLine differsLine entryLine lineOf differenceText table stretch held gone reading field entry inLeft inRight ipv4 cases
+unfolding computing first fieldNumber hiddenName withValue bothValues onlyIn shownText fieldLine presenceLine heldLine differsLine entryLine lineOf differenceText table stretch held gone reading field entry inLeft inRight ipv4 cases
 all-told = refl
 
 hidden-told : map (λ (c : Case). differenceText true (c .left) (c .right) (c .reading)) cases
     ≡ map (λ (c : Case). ascii (c .hidden)) cases
-unfolding computing first fieldNumber withValue bothValues onlyIn shownText fieldLine presenceLine heldLine differsLine entryLine lineOf differenceText table stretch held gone reading field entry inLeft inRight ipv4 cases
+unfolding computing first fieldNumber hiddenName withValue bothValues onlyIn shownText fieldLine presenceLine heldLine differsLine entryLine lineOf differenceText table stretch held gone reading field entry inLeft inRight ipv4 cases
 hidden-told = refl

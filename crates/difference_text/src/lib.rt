@@ -16,7 +16,7 @@ use text::put::put_text;
 ghost use mathlib.Core.Path.{_≡_};
 ghost use Prim.Native.Nat.{_-_};
 ghost use Rattle.text.specs.Put.{Puts};
-ghost use Rattle.difference_text.specs.DifferenceText.{fieldNumber, fieldAt, withValue, bothValues, onlyIn, shownText, fieldLine, presenceLine, heldLine, differsLine, entryLine, differenceText};
+ghost use Rattle.difference_text.specs.DifferenceText.{fieldNumber, fieldAt, hiddenName, withValue, bothValues, onlyIn, shownText, fieldLine, presenceLine, heldLine, differsLine, entryLine, differenceText};
 
 // No line has more bytes where no stretch has more than 255: so many has the longest string of an accepted table (`line-fits`).
 pub const LINE_SIZE: usize = 4096;
@@ -66,6 +66,15 @@ fn name_at(id: u8, index: u8, at: u16) -> FieldName
         index,
         field: field_number(id, at),
     }
+}
+
+// Puts the name of a secret that is to be hidden: with a mark before it that makes the line a comment, so that nobody enters
+// its words as the secret.
+fn put_hidden_name(room: &mut [u8], at: usize, f: FieldName) -> usize
+    ensures { λ r. ⌜ Puts (now (room .entry)) (now (room .exit)) at r (hiddenName f) ⌝ }
+{
+    let name = put_text(room, at, b"# ");
+    put_name(room, name, f)
 }
 
 // ---- pieces of a line
@@ -162,7 +171,7 @@ fn put_held_line(
     ensures { λ r. ⌜ Puts (now (room .entry)) (now (room .exit)) at r (heldLine secret f (now (bytes .entry)) right) ⌝ }
 {
     if secret {
-        let end = put_name(room, at, f);
+        let end = put_hidden_name(room, at, f);
         return put_only_in(room, end, right);
     }
     let end = put_with_value(room, at, f, bytes);
@@ -192,7 +201,7 @@ fn put_differs_line(
     ensures { λ r. ⌜ Puts (now (room .entry)) (now (room .exit)) at r (differsLine secret f (now (left .entry)) (now (right .entry)) reading) ⌝ }
 {
     if secret {
-        let words = put_name(room, at, f);
+        let words = put_hidden_name(room, at, f);
         return put_text(room, words, b"\tdiffers, hidden\n");
     }
     let l = reading.left;

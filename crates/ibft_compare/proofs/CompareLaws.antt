@@ -1,19 +1,18 @@
--- The comparing of two tables: both accepted, the list is that of their records; what is shown of a difference is found from where the two
--- tables have it.
+-- The comparing of two tables: both accepted, the list is that of their records; what is shown of a difference is found from
+-- where the two tables have it.
 --     both-accepted, list-accepted, list-refused     by the verdict on both
 --     compares                                       the promise of `compare`
 --     shown-start, shown-first                       what is shown of the first of some differences
 --     shown-lies                                     it lies inside the left table, or is nothing
 -- Assumes nothing.
-use mathlib.Core.Path.{_≡_, refl, sym, ap, ap₂, _∙_}
+use mathlib.Core.Path.{_≡_, refl, sym, ap, _∙_}
 use mathlib.Core.Bool.{Bool, true, false, cond}
-use mathlib.Core.Logic.{_⊎_, _↔_, inl, inr, ⊎-elim}
+use mathlib.Core.Logic.{_⊎_, inl, inr}
 use mathlib.Core.List.{List, [], _∷_}
 use Prim.Native.Nat.{ℕ, zero, suc, _+_, _≤_, _<_, min}
 use native.Mathlib.Omega.{arith}
 use borrow.Author.Tests.{ne-eqb}
 use lib.ListN.{length, drop}
-use lib.Dec.{eqb}
 use Rattle.octets.specs.Octets.{byte, part, differs}
 use Rattle.octets.proofs.CountingLaws.{clash, first-le}
 use Rattle.octets.proofs.TestLaws.{same-differs}
@@ -32,7 +31,7 @@ use Rattle.ibft_compare.specs.declared.difference.Stretch.{Stretch}
 use Rattle.ibft_compare.specs.Pairs.{pairsIn, pairsOf}
 use Rattle.ibft_compare.specs.Points.{Point, oemId, oemTableId, controlFlags, presence, fieldAt, stringAt, points, nameOf}
 use Rattle.ibft_compare.specs.Differences.{firstUnequal, differing, stretch, nothing, unequalPart, shownAt}
-use Rattle.ibft_compare.specs.Compare.{bothVerdict, sideOf, verdictOf, between, listFrom, listOf, comparedOf, entryStretch, stretchIn, leftStretch, rightStretch, shownStretch, firstName, firstStretch, shownOf}
+use Rattle.ibft_compare.specs.Compare.{bothVerdict, verdictOf, between, listFrom, listOf, comparedOf, entryStretch, stretchIn, leftStretch, rightStretch, shownStretch, firstName, firstStretch, shownOf}
 use Rattle.ibft_compare.specs.Walk.{indicesOf, partShown, shownBy}
 use Rattle.ibft_compare.specs.Promises.{Compares}
 use Rattle.ibft_compare.proofs.OrderLaws.{list-rises}

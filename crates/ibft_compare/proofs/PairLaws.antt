@@ -1,5 +1,5 @@
--- Pairs as the code makes them: a slot for the extra of a group and Index is of the group's kind, and past the last Index of both tables
--- there is no pair.
+-- Pairs as the code makes them: a slot for the extra of a group and Index is of the group's kind, and past the last Index of
+-- both tables there is no pair.
 --     paired-named, group-ends, seat-with     the slots of a pair
 --     pair-none, pair-some           an Index that no table has, and one that a table has
 --     extras-cut                     the Indexes up to the last one
@@ -15,7 +15,7 @@ use lib.ListN.{getD}
 use lib.Dec.{eqb}
 use Rattle.octets.specs.Counting.{gather}
 use Rattle.octets.proofs.CountingLaws.{gather-last}
-use Rattle.ibft_table.specs.Layout.{kindOf, namedCount, slotCount, extraMost, extraNics, extraTargets, leastIndex}
+use Rattle.ibft_table.specs.Layout.{kindOf, namedCount, slotCount, extraMost, leastIndex}
 use Rattle.ibft_laws.proofs.LayoutLaws.{nic-slot, target-slot}
 use Rattle.ibft_compare.specs.declared.pair.Pair.{Pair}
 use Rattle.ibft_compare.specs.Pairs.{namedPair, slotWith, pairAs, pairWith, extraPairs}

@@ -19,7 +19,7 @@ use Rattle.octets.proofs.TestLaws.{and-both}
 use Rattle.octets.proofs.CountingLaws.{clash, each-holds}
 use Rattle.octets.proofs.ReadLaws.{part-within}
 use Rattle.ibft_table.specs.Layout.{Kind, Field, StringField, flagsAt, kindOf, kindField, firstEntry, slotCount}
-use Rattle.ibft_table.specs.Table.{startsOf, startIn, presentIn, startOf, present, offsetOf, sizeOf, holdsEntry}
+use Rattle.ibft_table.specs.Table.{startsOf, presentIn, startOf, present, offsetOf, sizeOf, holdsEntry}
 use Rattle.ibft_table.specs.Record.{shownIf, bodySize, contentIn, contentOf}
 use Rattle.ibft_table.specs.Computing.{computing}
 use Rattle.ibft_laws.proofs.TableLaws.{present-past}
@@ -29,7 +29,7 @@ use Rattle.ibft_compare.specs.declared.pair.Pair.{Pair}
 use Rattle.ibft_compare.specs.declared.walk.Met.{Met}
 use Rattle.ibft_compare.specs.Pairs.{kindIn}
 use Rattle.ibft_compare.specs.Points.{oemId, oemTableId, controlFlags, presence, fieldAt, stringAt, nameOf}
-use Rattle.ibft_compare.specs.Differences.{unequal, inOne, fieldDiffers, stringDiffers, leftOf, rightOf, leftString, rightString, differAt, stretch, nothing}
+use Rattle.ibft_compare.specs.Differences.{unequal, inOne, fieldDiffers, stringDiffers, leftOf, rightOf, differAt, stretch, nothing}
 use Rattle.ibft_compare.specs.Compare.{entryStretch, structureStretch, stretchIn}
 use Rattle.ibft_compare.specs.Walk.{onlyOne, Seat, Paired, counted, metAt, walked}
 

@@ -1,4 +1,5 @@
--- The walk along points, as a count of those that differ: it goes on where it stopped, and what it keeps is the difference asked for.
+-- The walk along points, as a count of those that differ: it goes on where it stopped, and what it keeps is the difference
+-- asked for.
 --     walked-append, walked-three, walked-next     one stretch of points behind another; one step of a loop
 --     walked-few                     no more differences than points
 --     walked-is                      from its start on: how many differ, and the one asked for

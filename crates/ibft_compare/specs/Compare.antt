@@ -1,5 +1,5 @@
--- The comparing of two tables: the left one's refusal first, then the right one's; refused, nothing is listed and nothing shown.
--- Assumes nothing: these are definitions.
+-- The comparing of two tables: the left one's refusal first, then the right one's; refused, nothing is listed and nothing
+-- shown. Assumes nothing: these are definitions.
 use Prim.Native.Nat.{ℕ, _+_}
 use mathlib.Core.List.{List, [], _∷_}
 use mathlib.Core.Bool.{cond}

@@ -77,8 +77,8 @@ rises [] = true
 rises (a ∷ []) = true
 rises (a ∷ b ∷ s) = ltb a b && rises (b ∷ s)
 
-in-order : (rises (map turnOf (points named)) ≡ true)
-    × (rises (map turnOf (points (pairsIn (byIndex (2 ∷ 4 ∷ 6 ∷ 8 ∷ 10 ∷ 12 ∷ []) (2 ∷ 4 ∷ 6 ∷ 8 ∷ 10 ∷ 12 ∷ [])) (byIndex (3 ∷ 5 ∷ 7 ∷ 9 ∷ 11 ∷ 13 ∷ []) (250 ∷ 251 ∷ 252 ∷ 253 ∷ 254 ∷ 255 ∷ []))))) ≡ true)
+in-order : (rises (map turnOf (map nameOf (points named))) ≡ true)
+    × (rises (map turnOf (map nameOf (points (pairsIn (byIndex (2 ∷ 4 ∷ 6 ∷ 8 ∷ 10 ∷ 12 ∷ []) (2 ∷ 4 ∷ 6 ∷ 8 ∷ 10 ∷ 12 ∷ [])) (byIndex (3 ∷ 5 ∷ 7 ∷ 9 ∷ 11 ∷ 13 ∷ []) (250 ∷ 251 ∷ 252 ∷ 253 ∷ 254 ∷ 255 ∷ [])))))) ≡ true)
 unfolding computing rises byIndex named
 in-order = (refl, refl)
 
@@ -150,13 +150,14 @@ only-one : (names (target (some (97 ∷ []))) bare ≡ Presence 4 0 ∷ []) × (
 unfolding computing target bare names
 only-one = (refl, refl)
 
--- an Index that only one of them has is one difference, and so is the other's; NICs first. The same Index in another slot is no difference.
+-- an Index that only one of them has is one difference, and so is the other's; NICs first. The same Index in another slot is no
+-- difference.
 extras : names (all 0 (2 ∷ 9 ∷ zeros 4) (255 ∷ zeros 5)) (all 0 (5 ∷ 9 ∷ zeros 4) (3 ∷ 255 ∷ zeros 4)) ≡ Presence 3 2 ∷ Presence 3 5 ∷ Presence 4 3 ∷ []
 unfolding computing byIndex fill there all names
 extras = refl
 
--- The most that two tables can differ in, 193: 3, 6 of the initiator, 12 of each of eight NICs, 11 of each of eight targets. With one
--- other Index there are fewer: two presences for the twelve of a NIC.
+-- The most that two tables can differ in, 193: 3, 6 of the initiator, 12 of each of eight NICs, 11 of each of eight targets.
+-- With one other Index there are fewer: two presences for the twelve of a NIC.
 most : (length (between (all 0 (2 ∷ 3 ∷ 4 ∷ 5 ∷ 6 ∷ 7 ∷ []) (2 ∷ 3 ∷ 4 ∷ 5 ∷ 6 ∷ 255 ∷ [])) (all 1 (2 ∷ 3 ∷ 4 ∷ 5 ∷ 6 ∷ 7 ∷ []) (2 ∷ 3 ∷ 4 ∷ 5 ∷ 6 ∷ 255 ∷ []))) ≡ 193)
     × (length (between (all 0 (2 ∷ 3 ∷ 4 ∷ 5 ∷ 6 ∷ 7 ∷ []) (2 ∷ 3 ∷ 4 ∷ 5 ∷ 6 ∷ 255 ∷ [])) (all 1 (2 ∷ 3 ∷ 4 ∷ 5 ∷ 6 ∷ 8 ∷ []) (2 ∷ 3 ∷ 4 ∷ 5 ∷ 6 ∷ 255 ∷ []))) ≡ 183)
 unfolding computing byIndex fill there all

@@ -1,6 +1,7 @@
--- Which structures of two tables are compared with each other: pairs, by kind and Index. The named slots, in their order, then the extra NICs
--- and then the extra targets of both tables, each by ascending Index. RULES.md, Comparing. Assumes nothing: these are definitions.
-use Prim.Native.Nat.{ℕ, _+_, _*_, _-_, _^_}
+-- Which structures of two tables are compared with each other: pairs, by kind and Index. The named slots, in their order, then
+-- the extra NICs and then the extra targets of both tables, each by ascending Index. RULES.md, Comparing. Assumes nothing:
+-- these are definitions.
+use Prim.Native.Nat.{ℕ, _+_, _-_, _^_}
 use mathlib.Core.List.{List, [], _∷_, _++_}
 use mathlib.Core.Bool.{cond, _&&_}
 use lib.ListN.{getD}
@@ -10,16 +11,13 @@ use Rattle.ibft_table.specs.Layout.{Kind, kindOf, indexOf, slotCount, namedCoun
 use Rattle.ibft_table.specs.Record.{Content}
 use Rattle.ibft_compare.specs.declared.pair.Pair.{Pair}
 
--- A structure that either table may have: its group is its slot where it is a named one, the first slot of an extra of its kind where it is an
--- extra; group and Index name it; then the slot that it has in the left table and in the right one, `slotCount`, where nothing is ever
--- present, for an extra that this table has not. So the type `Pair` of the code has it.
+-- A structure that either table may have: its group is its slot where it is a named one, the first slot of an extra of its kind
+-- where it is an extra; group and Index name it; then the slot that it has in the left table and in the right one, `slotCount`,
+-- where nothing is ever present, for an extra that this table has not. So the type `Pair` of the code has it.
 
--- its kind; its turn among the pairs, below 2 ^ 12
+-- its kind
 abbrev pub kindIn : Pair → Kind
 kindIn p = kindOf (p .group)
-
-abbrev pub turnIn : Pair → ℕ
-turnIn p = 2 ^ 8 * p .group + p .index
 
 -- a named slot: the same one in both tables
 unfoldable pub namedPair : ℕ → Pair

@@ -1,12 +1,14 @@
--- What two tables may differ in, as data, in the order named: the OEM fields, Control's flags, presence by pair, flags and fields by pair and
--- offset, strings by pair in entry order. RULES.md, Comparing. Assumes nothing: these are definitions.
-use Prim.Native.Nat.{ℕ, zero, suc, _+_, _*_, _^_}
+-- What two tables may differ in, as data, in the order named: the OEM fields, Control's flags, presence by pair, flags and
+-- fields by pair and offset, strings by pair in entry order. RULES.md, Comparing. Assumes nothing: these are definitions.
+use Prim.Native.Nat.{ℕ, suc, _+_, _*_, _^_}
 use mathlib.Core.List.{List, [], _∷_, _++_, map}
-use Rattle.ibft_table.specs.Layout.{Field, field, StringField, flagsAt}
-use Rattle.ibft_compare.specs.Pairs.{kindIn, turnIn}
+use mathlib.Core.Bool.{cond}
+use lib.Dec.{eqb, ltb}
+use Rattle.ibft_table.specs.Layout.{Field, field, StringField, initiator, nic, flagsAt, extraNics, extraTargets, leastIndex, nicSlot, targetSlot}
+use Rattle.ibft_compare.specs.Pairs.{kindIn}
 use Rattle.ibft_compare.specs.declared.pair.Pair.{Pair}
 use Rattle.ibft_compare.specs.declared.difference.Difference.{Difference}
-use Rattle.ibft_compare.specs.declared.difference.Difference.the-variants.{OemId, OemTableId, ControlFlags, Presence, Field as FieldOf, Entry}
+use Rattle.ibft_compare.specs.declared.difference.Difference.the-variants.{Nothing, OemId, OemTableId, ControlFlags, Presence, Field as FieldOf, Entry}
 
 -- a pair's presence; a field of it; its j-th string
 pub data Point : Type 0 where
@@ -46,11 +48,24 @@ nameOf (presence p) = Presence ((kindIn p) .id) (p .index)
 nameOf (fieldAt p f) = FieldOf ((kindIn p) .id) (p .index) (f .at)
 nameOf (stringAt p j s) = Entry ((kindIn p) .id) (p .index) (s .at)
 
--- its turn in the order named; the header's by their place
-unfoldable pub turnOf : Point → ℕ
-turnOf oemId = 10
-turnOf oemTableId = 16
-turnOf controlFlags = 53
-turnOf (presence p) = 2 ^ 20 + 2 ^ 8 * turnIn p
-turnOf (fieldAt p f) = 2 * 2 ^ 20 + 2 ^ 8 * turnIn p + f .at
-turnOf (stringAt p j s) = 3 * 2 ^ 20 + 2 ^ 8 * turnIn p + s .at
+-- ---- the order named, by what an answer says
+
+-- the group of the structure with this ID and Index: a named one's is its slot, an extra's the first slot of its kind's extras
+unfoldable pub groupOf : ℕ → ℕ → ℕ
+groupOf id index =
+    cond (ltb index leastIndex) (cond (eqb id (initiator .id)) 0 (cond (eqb id (nic .id)) (nicSlot index) (targetSlot index)))
+    (cond (eqb id (nic .id)) extraNics extraTargets)
+
+-- its turn among the structures: by group, then by Index
+unfoldable pub structureTurn : ℕ → ℕ → ℕ
+structureTurn id index = 2 ^ 8 * groupOf id index + index
+
+-- a difference's turn in the order named; the header's by their place
+unfoldable pub turnOf : Difference → ℕ
+turnOf Nothing = 0
+turnOf OemId = 10
+turnOf OemTableId = 16
+turnOf ControlFlags = 53
+turnOf (Presence id index) = 2 ^ 20 + 2 ^ 8 * structureTurn id index
+turnOf (FieldOf id index at) = 2 * 2 ^ 20 + 2 ^ 8 * structureTurn id index + at
+turnOf (Entry id index at) = 3 * 2 ^ 20 + 2 ^ 8 * structureTurn id index + at

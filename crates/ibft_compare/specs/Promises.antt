@@ -1,4 +1,5 @@
--- What comparing promises. Nothing but the promises stands here. (One difference promises an equation, `r ≡ differenceOf left right k`.)
+-- What comparing promises. Nothing but the promises stands here. (One difference promises an equation, `r ≡ differenceOf left
+-- right k`.)
 use mathlib.Core.Path.{_≡_}
 use mathlib.Core.Logic.{_↔_}
 use mathlib.Core.List.{List, [], _∷_, map}
@@ -8,7 +9,7 @@ use Rattle.octets.specs.View.{Shows}
 use Rattle.table_header.specs.declared.verdict.Verdict.the-variants.{Accepted}
 use Rattle.ibft_table.specs.Check.{checkOf}
 use Rattle.ibft_table.specs.Record.{recordOf}
-use Rattle.ibft_compare.specs.Points.{turnOf}
+use Rattle.ibft_compare.specs.Points.{nameOf, turnOf}
 use Rattle.ibft_compare.specs.Compare.{listOf, comparedOf, shownOf, viewOf}
 use Rattle.ibft_compare.specs.declared.difference.Compared.{Compared}
 
@@ -24,8 +25,8 @@ pub record Compares (left right : List ℕ) (answer : Compared) : Type 0 where
   pub answer-is : answer ≡ comparedOf left right
   -- neither refused: none exactly where both read as the same record
   pub none-same : checkOf left ≡ Accepted → checkOf right ≡ Accepted → (answer .count ≡ 0) ↔ (recordOf left ≡ recordOf right)
-  -- in the order named, so each once
-  pub in-order : Rising (map turnOf (listOf left right))
+  -- in the order named, by what they are called: so each once
+  pub in-order : Rising (map turnOf (map nameOf (listOf left right)))
   -- refused: none
   pub refused : (answer .refusal .number ≡ 0 → ⊥) → answer .count ≡ 0
 

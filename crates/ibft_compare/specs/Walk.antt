@@ -1,5 +1,5 @@
--- What the functions inside say: a walk along points, in which the differences are counted and the one asked for is kept. Callers need
--- none of it. Assumes nothing: these are definitions.
+-- What the functions inside say: a walk along points, in which the differences are counted and the one asked for is kept.
+-- Callers need none of it. Assumes nothing: these are definitions.
 use Prim.Native.Nat.{ℕ, _+_, _-_, _<_}
 use mathlib.Core.Path.{_≡_}
 use mathlib.Core.Logic.{_⊎_}

@@ -1,4 +1,5 @@
-// Compares two tables: how many differences there are, and each of them by its number. Every call checks both tables, the left one first.
+// Compares two tables: how many differences there are, and each of them by its number. Every call checks both tables, the left
+// one first.
 use crate::difference::Compared;
 use crate::difference::Difference;
 use crate::difference::DifferenceReading;

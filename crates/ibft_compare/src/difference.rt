@@ -1,8 +1,8 @@
 // A difference between two tables, by meaning.
 use table_header::verdict::Refusal;
 
-// What differs. A structure is named by its kind's ID and its Index; a field of it, and an entry, also by where it stands in the
-// structure: the flags at 5, an entry by its length.
+// What differs. A structure is named by its kind's ID and its Index; a field of it, and an entry, also by where it stands in
+// the structure: the flags at 5, an entry by its length.
 pub enum Difference {
     Nothing,
     OemId,
@@ -13,7 +13,8 @@ pub enum Difference {
     Entry(u8, u8, u16),
 }
 
-// Bytes of a table: where they start and how many they are. A table has nothing to name at 0: what starts there is not in the table.
+// Bytes of a table: where they start and how many they are. A table has nothing to name at 0: what starts there is not in the
+// table.
 pub struct Stretch {
     pub start: u32,
     pub length: u16,

@@ -14,9 +14,9 @@ ghost use Rattle.ibft_table.specs.Table.{startsOf};
 ghost use Rattle.ibft_compare.specs.Pairs.{namedPair, slotWith};
 ghost use Rattle.ibft_compare.specs.Walk.{indicesOf};
 
-// A structure that either table may have. Its group is its slot where it is a named one, the first slot of an extra of its kind where it
-// is an extra; group and Index name it. Then the slot that it has in the left table and in the right one: `SLOT_COUNT`, where nothing is
-// ever present, for an extra that this table has not.
+// A structure that either table may have. Its group is its slot where it is a named one, the first slot of an extra of its kind
+// where it is an extra; group and Index name it. Then the slot that it has in the left table and in the right one:
+// `SLOT_COUNT`, where nothing is ever present, for an extra that this table has not.
 pub struct Pair {
     pub group: u8,
     pub index: u8,
@@ -77,13 +77,14 @@ pub(crate) fn slot_with(indices: &[u8], group: u8, index: u8) -> u8
     SLOT_COUNT
 }
 
+// The greater of the two.
 pub(crate) fn greater(a: u8, b: u8) -> u8
     ensures { λ r. ⌜ r ≡ max a b ⌝ }
 {
     if a < b { b } else { a }
 }
 
-// The greatest Index of an extra of this group; 0 where there is none.
+// No extra of this group has a greater Index.
 pub(crate) fn last_index(indices: &[u8], group: u8) -> u8
     requires { ⌜ group + extraMost ≤ slotCount ⌝ }
     ensures { λ r. ⌜ ((i : ℕ) → i < extraMost → getD (now (indices .entry)) (group + i) 0 ≤ r) ⌝ }

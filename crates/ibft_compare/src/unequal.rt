@@ -5,6 +5,7 @@ ghost use lib.ListN.{length};
 ghost use Rattle.ibft_compare.specs.Differences.{firstUnequal, unequal};
 ghost use Rattle.ibft_compare.specs.Walk.{onlyOne};
 
+// The smaller of the two.
 fn smaller(a: usize, b: usize) -> usize
     ensures { λ r. ⌜ r ≡ min a b ⌝ }
 {

@@ -1,4 +1,4 @@
--- A refusal as a line of text (RULES.md, Show). Assumes nothing: these are definitions.
+-- A refusal as a line of text (RULES.md, Show and Compare). Assumes nothing: these are definitions.
 use Prim.Native.Nat.{ℕ}
 use Prim.Native.Char.{code}
 use mathlib.Core.Bool.{cond}

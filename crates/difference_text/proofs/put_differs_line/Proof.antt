@@ -8,7 +8,7 @@ use Rattle.difference_text.proofs.put_differs_line.Tie as tie
 
 returns : tie.Need-returns
 unfolding tabulate
-returns c = puts-same (puts-append (c .before .before .before .before .before .before .before .put-name .ensures) (c .before .before .put-text .ensures)) (differs-hidden _ _ _ _ _ (c .before .before .before .before .before .before .before .before .before .if1 .taken))
+returns c = puts-same (puts-append (c .before .before .before .before .before .before .before .put-hidden-name .ensures) (c .before .before .put-text .ensures)) (differs-hidden _ _ _ _ _ (c .before .before .before .before .before .before .before .before .before .if1 .taken))
 
 returns-2 : tie.Need-returns-2
 returns-2 c =

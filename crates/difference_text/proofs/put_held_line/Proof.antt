@@ -6,7 +6,7 @@ use Rattle.difference_text.proofs.put_held_line.Statement.{statement}
 use Rattle.difference_text.proofs.put_held_line.Tie as tie
 
 returns : tie.Need-returns
-returns c = puts-same (puts-append (c .before .before .before .before .before .before .put-name .ensures) (c .before .before .put-only-in .ensures)) (held-hidden _ _ _ _ (c .before .before .before .before .before .before .before .before .if1 .taken))
+returns c = puts-same (puts-append (c .before .before .before .before .before .before .put-hidden-name .ensures) (c .before .before .put-only-in .ensures)) (held-hidden _ _ _ _ (c .before .before .before .before .before .before .before .before .if1 .taken))
 
 returns-2 : tie.Need-returns-2
 returns-2 c = puts-same (puts-append (c .before .before .before .before .before .before .put-with-value .ensures) (c .before .before .put-only-in2 .ensures)) (held-told _ _ _ _ (c .before .before .before .before .before .before .before .before .if1 .left))

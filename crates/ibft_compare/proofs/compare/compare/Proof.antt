@@ -9,7 +9,6 @@ use Rattle.table_header.specs.declared.verdict.Refusal.{Refusal}
 use Rattle.table_header.specs.declared.verdict.Verdict.{Verdict}
 use Rattle.table_header.specs.declared.verdict.Verdict.the-variants.{Accepted, Refused}
 use Rattle.ibft_table.specs.Check.{checkOf}
-use Rattle.ibft_compare.specs.declared.difference.Compared.{Compared}
 use Rattle.ibft_compare.specs.declared.walk.Met.{Met}
 use Rattle.ibft_compare.specs.Points.{Point, points}
 use Rattle.ibft_compare.specs.Pairs.{pairsIn}

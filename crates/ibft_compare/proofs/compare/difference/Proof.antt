@@ -1,5 +1,5 @@
--- `difference` meets its contract: the walk along all points keeps the one asked for, and what is shown of it is found from where the
--- tables have it. Assumes nothing.
+-- `difference` meets its contract: the walk along all points keeps the one asked for, and what is shown of it is found from
+-- where the tables have it. Assumes nothing.
 use mathlib.Core.Path.{_≡_, refl, sym, ap, ap₂, _∙_}
 use mathlib.Core.List.{List, []}
 use Prim.Native.Nat.{ℕ, zero, suc}
@@ -11,7 +11,6 @@ use Rattle.table_header.specs.declared.verdict.Verdict.{Verdict}
 use Rattle.table_header.specs.declared.verdict.Verdict.the-variants.{Accepted, Refused}
 use Rattle.ibft_table.specs.Check.{checkOf}
 use Rattle.ibft_compare.specs.declared.difference.Difference.{Difference}
-use Rattle.ibft_compare.specs.declared.difference.DifferenceReading.{DifferenceReading}
 use Rattle.ibft_compare.specs.declared.difference.Stretch.{Stretch}
 use Rattle.ibft_compare.specs.declared.walk.Met.{Met}
 use Rattle.ibft_compare.specs.Points.{Point, points}

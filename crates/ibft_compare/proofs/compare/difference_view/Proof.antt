@@ -1,7 +1,7 @@
--- `difference_view` meets its contract: the stretch that the reading shows lies within the left table, or is none. Assumes nothing.
-use mathlib.Core.Path.{_≡_, sym, ap, ap₂, _∙_}
+-- `difference_view` meets its contract: the stretch that the reading shows lies within the left table, or is none. Assumes
+-- nothing.
+use mathlib.Core.Path.{_≡_, ap, ap₂, _∙_}
 use mathlib.Core.Logic.{⊎-elim}
-use mathlib.Core.List.{[]}
 use Prim.Native.Nat.{_≤_}
 use native.Mathlib.Omega.{arith}
 use lib.ListN.{length}

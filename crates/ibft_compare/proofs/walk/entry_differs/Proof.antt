@@ -1,6 +1,6 @@
 -- `entry_differs` meets its contract: missing against present is a difference; where both are there their bytes are compared.
 -- Assumes nothing.
-use mathlib.Core.Path.{_≡_, refl, sym, ap₂, _∙_}
+use mathlib.Core.Path.{refl, sym, ap₂, _∙_}
 use borrow.Author.Tests.{not-true, not-false}
 use Rattle.ibft_compare.specs.Differences.{unequal}
 use Rattle.ibft_compare.specs.Walk.{onlyOne}

@@ -1,12 +1,11 @@
--- `meet_extras` meets its contract: at each turn the walk has gone along the Indexes passed, and past the last one there is no extra.
--- Assumes nothing.
+-- `meet_extras` meets its contract: at each turn the walk has gone along the Indexes passed, and past the last one there is no
+-- extra. Assumes nothing.
 use mathlib.Core.Path.{_≡_, refl, sym, ap, _∙_}
 use mathlib.Core.List.{List}
 use Prim.Native.Nat.{ℕ, _+_, _*_, _-_, _≤_}
 use native.Mathlib.Omega.{arith}
 use Rattle.octets.specs.Counting.{gather}
 use Rattle.ibft_table.specs.Layout.{leastIndex}
-use Rattle.ibft_compare.specs.declared.pair.Pair.{Pair}
 use Rattle.ibft_compare.specs.declared.walk.Aspect.{Aspect}
 use Rattle.ibft_compare.specs.Pairs.{pairWith}
 use Rattle.ibft_compare.specs.Points.{Point, each}

@@ -1,11 +1,10 @@
 -- `meet_field` meets its contract: the field's bytes stand in both structures at the same place. Assumes nothing.
-use mathlib.Core.Path.{_≡_, sym, ap, _∙_}
+use mathlib.Core.Path.{_≡_, ap, _∙_}
 use Prim.Native.Nat.{ℕ}
 use mathlib.Core.List.{List}
 use Rattle.ibft_table.specs.Layout.{kindOf, kindField}
 use Rattle.ibft_table.specs.Table.{startIn}
 use Rattle.ibft_table.specs.Shapes.{fieldShape}
-use Rattle.ibft_table.specs.declared.layout.FieldShape.{FieldShape}
 use Rattle.ibft_table.specs.declared.layout.Shape.{Shape}
 use Rattle.ibft_compare.proofs.PointLaws.{field-inside, field-met}
 use borrow.Author.Needs.{needs}

@@ -1,5 +1,5 @@
 -- `meet_header` meets its contract: three points, one after another. Assumes nothing.
-use mathlib.Core.Path.{_≡_, ap₂}
+use mathlib.Core.Path.{ap₂}
 use native.Mathlib.Omega.{arith}
 use Rattle.octets.specs.Octets.{differs}
 use Rattle.ibft_compare.proofs.PointLaws.{header-met}

@@ -9,7 +9,7 @@ use Rattle.ibft_compare.specs.declared.pair.Pair.{Pair}
 use Rattle.ibft_compare.specs.declared.walk.Aspect.{Aspect}
 use Rattle.ibft_compare.specs.Pairs.{namedPair}
 use Rattle.ibft_compare.specs.Points.{Point}
-use Rattle.ibft_compare.specs.Walk.{Paired, pointsIn, walked}
+use Rattle.ibft_compare.specs.Walk.{pointsIn, walked}
 use Rattle.ibft_compare.proofs.WalkLaws.{walked-next, each-tabulate}
 use Rattle.ibft_compare.proofs.PairLaws.{paired-named}
 use borrow.Author.Needs.{needs}

@@ -1,7 +1,7 @@
 -- `meet_pair` meets its contract, aspect by aspect. Assumes nothing.
 use mathlib.Core.Path.{_≡_, sym, ap, _∙_}
 use mathlib.Core.List.{List, [], _∷_}
-use Prim.Native.Nat.{ℕ, _+_, _≤_}
+use Prim.Native.Nat.{ℕ}
 use native.Mathlib.Omega.{arith}
 use Rattle.ibft_compare.specs.declared.pair.Pair.{Pair}
 use Rattle.ibft_compare.specs.declared.walk.Aspect.{Aspect}

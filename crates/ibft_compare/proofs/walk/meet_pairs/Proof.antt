@@ -1,5 +1,5 @@
 -- `meet_pairs` meets its contract: the named slots, the extra NICs, the extra targets, one behind another. Assumes nothing.
-use mathlib.Core.Path.{_≡_, refl, sym, ap, _∙_}
+use mathlib.Core.Path.{refl, sym, ap, _∙_}
 use mathlib.Core.Logic.{inl, inr}
 use native.Mathlib.Omega.{arith}
 use Rattle.ibft_table.specs.Layout.{extraNics, extraTargets}
@@ -7,7 +7,6 @@ use Rattle.ibft_compare.specs.Pairs.{extraPairs}
 use Rattle.ibft_compare.specs.Points.{each}
 use Rattle.ibft_compare.specs.Walk.{namedPairs, ExtraGroup, pointsIn, walked}
 use Rattle.ibft_compare.proofs.WalkLaws.{walked-three, each-pairs}
-use borrow.Author.Needs.{needs}
 use Rattle.ibft_compare.proofs.walk.meet_pairs.Statement.{statement}
 use Rattle.ibft_compare.proofs.walk.meet_pairs.Tie as tie
 

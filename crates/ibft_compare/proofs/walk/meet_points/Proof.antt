@@ -1,5 +1,5 @@
 -- `meet_points` meets its contract: the header, then the three aspects, one behind another. Assumes nothing.
-use mathlib.Core.Path.{_≡_, ap, _∙_}
+use mathlib.Core.Path.{ap, _∙_}
 use native.Mathlib.Omega.{arith}
 use mathlib.Core.List.{[], _∷_}
 use Rattle.ibft_compare.specs.declared.walk.Met.{Met}

@@ -1,5 +1,5 @@
 -- `meet_presence` meets its contract: a structure is there where its start is not 0. Assumes nothing.
-use mathlib.Core.Path.{_≡_, ap, _∙_}
+use mathlib.Core.Path.{ap, _∙_}
 use Prim.Native.Nat.{ℕ}
 use mathlib.Core.List.{List}
 use Rattle.ibft_table.specs.Table.{startIn}

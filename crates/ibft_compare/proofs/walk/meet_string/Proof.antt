@@ -1,18 +1,17 @@
--- `meet_string` meets its contract: the string is the same one among the entries of its structure in both tables. Assumes nothing.
-use mathlib.Core.Path.{_≡_, sym, ap, ap₂, _∙_}
-use mathlib.Core.Bool.{Bool}
+-- `meet_string` meets its contract: the string is the same one among the entries of its structure in both tables. Assumes
+-- nothing.
+use mathlib.Core.Path.{_≡_, sym, ap, _∙_}
 use mathlib.Core.Logic.{⊎-elim}
 use mathlib.Core.List.{List}
 use Prim.Native.Nat.{ℕ, _+_, _≤_}
 use native.Mathlib.Omega.{arith}
-use Rattle.octets.specs.Octets.{differs}
-use Rattle.ibft_table.specs.Layout.{slotCount, entryCount, firstEntry, stringOf}
+use Rattle.ibft_table.specs.Layout.{entryCount, firstEntry, stringOf}
 use Rattle.ibft_table.specs.Table.{startIn}
 use Rattle.ibft_table.specs.Shapes.{stringShape}
 use Rattle.ibft_table.specs.declared.layout.Shape.{Shape}
 use Rattle.ibft_table.specs.declared.layout.StringShape.{StringShape}
 use Rattle.ibft_table.proofs.LayoutLaws.{first-most}
-use Rattle.ibft_compare.specs.Walk.{Seat, onlyOne}
+use Rattle.ibft_compare.specs.Walk.{Seat}
 use Rattle.ibft_compare.proofs.PointLaws.{string-passed, string-met}
 use borrow.Author.Needs.{needs}
 use Rattle.ibft_compare.proofs.walk.meet_string.Statement.{statement}

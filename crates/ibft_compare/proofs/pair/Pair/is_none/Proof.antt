@@ -2,7 +2,6 @@
 use mathlib.Core.Path.{refl}
 use borrow.Author.Tests.{eq-eqb, ne-eqb}
 use Rattle.ibft_table.specs.Layout.{slotCount}
-use borrow.Author.Needs.{needs}
 use Rattle.ibft_compare.proofs.pair.Pair.is_none.Statement.{statement}
 use Rattle.ibft_compare.proofs.pair.Pair.is_none.Tie as tie
 

@@ -1,4 +1,5 @@
--- `Met::then` meets its contract: one more is counted where the tables differ, and kept where it is the one asked for. Assumes nothing.
+-- `Met::then` meets its contract: one more is counted where the tables differ, and kept where it is the one asked for. Assumes
+-- nothing.
 use mathlib.Core.Path.{refl}
 use native.Mathlib.Omega.{arith}
 use borrow.Author.Tests.{not-true, not-false, eq-eqb, ne-eqb}
