@@ -1,6 +1,6 @@
 -- `unequal_part` meets its contract: of the left string no more bytes are the same than it has, so that all fits.
 -- Assumes nothing.
-use mathlib.Core.Path.{_≡_, ap, ap₂, _∙_}
+use mathlib.Core.Path.{_≡_, refl, ap, ap₂, _∙_}
 use mathlib.Core.List.{List}
 use Prim.Native.Nat.{ℕ, _+_, _-_, _≤_}
 use native.Mathlib.Omega.{arith}
@@ -43,7 +43,7 @@ returns-2 : tie.Need-returns-2
 unfolding partShown
 returns-2 c =
     let a = c .before .before .before .before .before .before .args in
-    rw (ne-eqb (a .l .start) 0 (c .before .before .if1 .left), eq-eqb (a .r .start) 0 (c .if2 .taken))
+    rw (ne-eqb (a .l .start) 0 (c .before .before .if1 .left), eq-eqb (a .r .start) 0 (c .if2 .taken)) refl
 
 cast-t13 : tie.Need-cast-t13
 cast-t13 c = let w = within c in search needs
