@@ -7,3 +7,4 @@ pub mod Walk
 pub mod Promises
 pub mod Computing
 pub mod CompareCases
+pub mod TableCases
