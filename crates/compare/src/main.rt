@@ -45,7 +45,7 @@ fn print_refusal(refusal: Refusal, side: u8) {
     print(part(&room, 0, end));
 }
 
-// (No line is longer than the room, since no field and no string of an accepted table has more than 255 bytes: `line-fits`.)
+// (No line is longer than the room, since no field and no string of an accepted table has more than 255 bytes: `told-fits`.)
 fn print_difference(left: &[u8], right: &[u8], k: u16, hide: bool) {
     let mut room = [0u8; LINE_SIZE];
     let end = put_difference(&mut room, 0, left, right, difference(left, right, k), hide);

@@ -7,6 +7,8 @@
 --     name-most           the name of a field
 --     value-most          the value of a field
 --     line-fits           a line
+--     reading-short       every difference of two tables is read as a short one
+--     told-fits           so the line of each has no more
 -- Assumes nothing.
 use mathlib.Core.Path.{_≡_, refl}
 use mathlib.Core.List.{List, [], _∷_, _++_}
@@ -43,6 +45,8 @@ use Rattle.ibft_compare.specs.declared.difference.Difference.{Difference}
 use Rattle.ibft_compare.specs.declared.difference.Difference.the-variants.{Nothing, OemId, OemTableId, ControlFlags, Presence, Field, Entry}
 use Rattle.ibft_compare.specs.declared.difference.Stretch.{Stretch}
 use Rattle.ibft_compare.specs.declared.difference.DifferenceReading.{DifferenceReading}
+use Rattle.ibft_compare.specs.Compare.{differenceOf}
+use Rattle.ibft_compare.proofs.SizeLaws.{indexNamed, Short, difference-short}
 use Rattle.text.specs.Put.{ascii}
 use Rattle.difference_text.specs.DifferenceText.{bar, hiddenWords, oemId, oemTableId, controlFlags, structure, nameText, hiddenName, bytesIn, isAbsent, isHidden, valueOf, fieldAt, withValue, bothValues, onlyIn, shownText, fieldLine, presenceLine, heldLine, differsLine, entryLine, lineOf, differenceText}
 
@@ -206,24 +210,6 @@ value-most f t s small short =
 
 -- ---- a line
 
--- the Index that a difference names
-abbrev pub indexNamed : Difference → ℕ
-indexNamed Nothing = 0
-indexNamed OemId = 0
-indexNamed OemTableId = 0
-indexNamed ControlFlags = 0
-indexNamed (Presence id index) = index
-indexNamed (Field id index at) = index
-indexNamed (Entry id index at) = index
-
--- a reading of no more than the types and the check allow: a string has at most 255 bytes, and so has every field
-pub record Short (d : DifferenceReading) : Type 0 where
-  pub index : indexNamed (d .difference) < 2 ^ 8
-  pub left : d .left .length ≤ 255
-  pub right : d .right .length ≤ 255
-  pub shown : d .shown .length ≤ 255
-  pub start : d .shown .start < 2 ^ 32
-
 only-most : (right : Bool) → length (onlyIn right) ≤ 15
 unfolding onlyIn tabulate
 only-most true = omega arith
@@ -328,3 +314,12 @@ line-fits hide left right d l r short = go (d .difference) (short .index)
     go (Field id index at) small = field-most left right d l r short (fieldAt id index at) small
     go (Entry id index at) small =
         entry-most left right d l r short (fieldAt id index at) small (isHidden hide (fieldAt id index at))
+
+-- ---- the differences of two tables
+
+pub reading-short : (left right : List ℕ) (k : ℕ) → Bytes left → Bytes right → Short (differenceOf left right k)
+reading-short left right k l r = difference-short left right k l
+
+pub told-fits : (hide : Bool) (left right : List ℕ) (k : ℕ) → Bytes left → Bytes right
+    → length (differenceText hide left right (differenceOf left right k)) ≤ 4096
+told-fits hide left right k l r = line-fits hide left right (differenceOf left right k) l r (reading-short left right k l r)

@@ -18,7 +18,7 @@ ghost use Prim.Native.Nat.{_-_};
 ghost use Rattle.text.specs.Put.{Puts};
 ghost use Rattle.difference_text.specs.DifferenceText.{fieldNumber, fieldAt, hiddenName, withValue, bothValues, onlyIn, shownText, fieldLine, presenceLine, heldLine, differsLine, entryLine, differenceText};
 
-// No line has more bytes where no stretch has more than 255: so many has the longest string of an accepted table (`line-fits`).
+// No line of two tables has more bytes, since no string of an accepted table has more than 255 (`told-fits`).
 pub const LINE_SIZE: usize = 4096;
 
 // The fields of the header, the group of kind 0, and of Control, of kind 1.

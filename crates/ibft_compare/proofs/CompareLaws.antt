@@ -4,6 +4,7 @@
 --     compares                                       the promise of `compare`
 --     shown-start, shown-first                       what is shown of the first of some differences
 --     shown-lies                                     it lies inside the left table, or is nothing
+--     unequal-le                                     the first unequal byte of two strings is at most behind the first one
 -- Assumes nothing.
 use mathlib.Core.Path.{_≡_, refl, sym, ap, _∙_}
 use mathlib.Core.Bool.{Bool, true, false, cond}
@@ -147,7 +148,7 @@ module _ (left right : List ℕ) (l : checkOf left ≡ Accepted) (r : checkOf ri
 abbrev Inside : List ℕ → Stretch → Type 0
 Inside t s = ((s .start ≡ 0) × (s .length ≡ 0)) ⊎ ((s .start ≡ 0 → ⊥) × (s .start + s .length ≤ length t))
 
-unequal-le : (x y : List ℕ) → firstUnequal x y ≤ length x
+pub unequal-le : (x y : List ℕ) → firstUnequal x y ≤ length x
 unfolding firstUnequal
 unequal-le x y = omega (arith, first-le (min (length x) (length y)) (λ (k : ℕ). differs (byte x k) (byte y k)))
 

@@ -7,3 +7,4 @@ pub mod WalkLaws
 pub mod PointLaws
 pub mod LeafLaws
 pub mod CompareLaws
+pub mod SizeLaws

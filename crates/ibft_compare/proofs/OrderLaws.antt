@@ -2,6 +2,7 @@
 -- the pairs it rises, so it rises along the points of each group, presence, fields and strings, and these groups lie one above
 -- another; what is left out of a rising list leaves a rising one.
 --     list-rises     the turn of each difference's name is below that of the next one's
+--     kind-holds     a test that holds for the kind of every slot
 -- Assumes nothing.
 use mathlib.Core.Path.{_≡_, refl, ap, _∙_}
 use mathlib.Core.Bool.{Bool, true, false, not, cond, _&&_}
@@ -138,7 +139,7 @@ strings-between p j (empty e) = between-empty (omega arith)
 strings-between p j (more e b) = between-more (omega arith) (between-lower (omega arith) (strings-between p (suc j) b))
 
 -- a test that holds for the kind of every slot; past the last slot stands the kind of the first
-kind-holds : (test : Kind → Bool) → any slotCount (λ (k : ℕ). not (test (kindOf k))) ≡ false → (k : ℕ) → test (kindOf k) ≡ true
+pub kind-holds : (test : Kind → Bool) → any slotCount (λ (k : ℕ). not (test (kindOf k))) ≡ false → (k : ℕ) → test (kindOf k) ≡ true
 unfolding kindOf
 kind-holds test holds k =
     elim (decLt k slotCount) [

@@ -1,25 +1,24 @@
--- Pairs as the code makes them: a slot for the extra of a group and Index is of the group's kind, and past the last Index of
--- both tables there is no pair.
+-- Pairs as the code makes them: a slot for the extra of a group and Index is of the group's kind, and between an Index that a
+-- table has and the next one there is no pair.
 --     paired-named, group-ends, seat-with     the slots of a pair
 --     pair-none, pair-some           an Index that no table has, and one that a table has
---     extras-cut                     the Indexes up to the last one
+--     index-none                     an Index between one that a table has and the next
+--     gather-skip                    empty lists at the end
 -- Assumes nothing.
 use mathlib.Core.Path.{_≡_, refl, sym, ap, _∙_}
 use mathlib.Core.Bool.{true, false, _&&_}
 use mathlib.Core.Logic.{inl, inr, ⊎-elim}
 use mathlib.Core.List.{List, [], _∷_, _++_, append-nil}
-use Prim.Native.Nat.{ℕ, zero, suc, _+_, _-_, _^_, _≤_, _<_}
+use Prim.Native.Nat.{ℕ, zero, suc, _+_, _-_, _≤_, _<_}
 use native.Mathlib.Decide.{decLt}
 use native.Mathlib.Omega.{arith}
-use lib.ListN.{getD}
 use lib.Dec.{eqb}
 use Rattle.octets.specs.Counting.{gather}
 use Rattle.octets.proofs.CountingLaws.{gather-last}
-use Rattle.ibft_table.specs.Layout.{kindOf, namedCount, slotCount, extraMost, leastIndex}
+use Rattle.ibft_table.specs.Layout.{kindOf, namedCount, slotCount, extraMost}
 use Rattle.ibft_laws.proofs.LayoutLaws.{nic-slot, target-slot}
-use Rattle.ibft_compare.specs.declared.pair.Pair.{Pair}
-use Rattle.ibft_compare.specs.Pairs.{namedPair, slotWith, pairAs, pairWith, extraPairs}
-use Rattle.ibft_compare.specs.Walk.{Seat, Paired, ExtraGroup}
+use Rattle.ibft_compare.specs.Pairs.{namedPair, slotWith, pairAs, pairWith}
+use Rattle.ibft_compare.specs.Walk.{Seat, Paired, ExtraGroup, NoneBetween}
 use Rattle.ibft_compare.proofs.SlotWithLaws.{slot-with-found, slot-with-most, slot-with-none}
 
 -- ---- the slots of a pair
@@ -59,26 +58,22 @@ module _ (group index left right : ℕ) where
   unfolding pairAs
   pair-some e = rw e refl
 
--- ---- all of them
+pub index-none : (a b : List ℕ) (group after next i : ℕ) → NoneBetween a group after next → NoneBetween b group after next → after < i → i < next
+    → pairWith a b group i ≡ []
+unfolding pairWith
+index-none a b group after next i na nb low high =
+    let none : eqb (slotWith a group i) slotCount && eqb (slotWith b group i) slotCount ≡ true =
+    rw (slot-with-none a group i (λ j l e. omega (arith, na j l (omega arith))), slot-with-none b group i (λ j l e. omega (arith, nb j l (omega arith)))) refl in
+    pair-none group i (slotWith a group i) (slotWith b group i) none
 
-gather-none : (f : ℕ → List Pair) (k n m : ℕ) → ((i : ℕ) → k + n ≤ i → f i ≡ []) → gather f k (n + m) ≡ gather f k n
-gather-none f k n zero past = ap (gather f k) (omega arith)
-gather-none f k n (suc m) past =
+-- ---- lists of which some are empty
+
+pub gather-skip {ℓ} : {A : Type ℓ} (f : ℕ → List A) (k n m : ℕ) → ((i : ℕ) → k + n ≤ i → i < k + (n + m) → f i ≡ []) → gather f k (n + m) ≡ gather f k n
+gather-skip f k n zero none = ap (gather f k) (omega arith)
+gather-skip f k n (suc m) none =
     let next : n + suc m ≡ suc (n + m) = omega arith in
     ap (gather f k) next
     ∙ gather-last f k (n + m)
-    ∙ ap (λ (l : List Pair). gather f k (n + m) ++ l) (past (k + (n + m)) (omega arith))
+    ∙ ap (λ (l : List _). gather f k (n + m) ++ l) (none (k + (n + m)) (omega arith) (omega arith))
     ∙ append-nil (gather f k (n + m))
-    ∙ gather-none f k n m past
-
-pub extras-cut : (a b : List ℕ) (group last n : ℕ) → ((i : ℕ) → i < extraMost → getD a (group + i) 0 ≤ last) → ((i : ℕ) → i < extraMost → getD b (group + i) 0 ≤ last)
-    → last < leastIndex + n → n ≤ 2 ^ 8 - leastIndex → extraPairs a b group ≡ gather (pairWith a b group) leastIndex n
-unfolding extraPairs pairWith
-extras-cut a b group last n la lb past few =
-    let all : 2 ^ 8 - leastIndex ≡ n + (2 ^ 8 - leastIndex - n) = omega arith in
-    ap (gather (pairWith a b group) leastIndex) all
-    ∙ gather-none (pairWith a b group) leastIndex n (2 ^ 8 - leastIndex - n)
-    (λ i h.
-    let none : eqb (slotWith a group i) slotCount && eqb (slotWith b group i) slotCount ≡ true =
-    rw (slot-with-none a group i (λ j l e. omega (arith, la j l)), slot-with-none b group i (λ j l e. omega (arith, lb j l))) refl in
-    pair-none group i (slotWith a group i) (slotWith b group i) none)
+    ∙ gather-skip f k n m (λ i l h. none i l (omega arith))

@@ -3,6 +3,7 @@
 -- without a gap, so it stands in the same slot there; and of each slot both have the same fields, which make up its bytes, and
 -- the same strings.
 --     none-same     the two ways
+--     Each          every one of a list; append-each, map-each, gather-each, pairs-each, each-wider: of what it is made of
 -- Assumes nothing.
 use mathlib.Core.Path.{_≡_, refl, sym, ap, _∙_}
 use mathlib.Core.Bool.{Bool, true, false, cond, not, _&&_}
@@ -43,12 +44,12 @@ use Rattle.ibft_compare.proofs.SlotWithLaws.{slot-with-found, slot-with
 
 -- ---- every one of a list: of what lists are made of, and the other way
 
-abbrev Each : {A : Type 0} → (A → Type 0) → List A → Type 0
+abbrev pub Each : {A : Type 0} → (A → Type 0) → List A → Type 0
 Each P [] = Unit
 Each P (x ∷ xs) = P x × Each P xs
 
 module _ {A : Type 0} (P : A → Type 0) where
-  append-each : (xs ys : List A) → Each P xs → Each P ys → Each P (xs ++ ys)
+  pub append-each : (xs ys : List A) → Each P xs → Each P ys → Each P (xs ++ ys)
   append-each [] ys p q = q
   append-each (x ∷ xs) ys p q = (p .0, append-each xs ys (p .1) q)
 
@@ -56,7 +57,7 @@ module _ {A : Type 0} (P : A → Type 0) where
   each-append [] ys p = (tt, p)
   each-append (x ∷ xs) ys p = let q = each-append xs ys (p .1) in ((p .0, q .0), q .1)
 
-  map-each : {B : Type 0} (f : B → A) (xs : List B) → Each (λ (x : B). P (f x)) xs → Each P (map f xs)
+  pub map-each : {B : Type 0} (f : B → A) (xs : List B) → Each (λ (x : B). P (f x)) xs → Each P (map f xs)
   map-each f [] p = tt
   map-each f (x ∷ xs) p = (p .0, map-each f xs (p .1))
 
@@ -78,10 +79,11 @@ module _ {A : Type 0} (P : A → Type 0) where
         | no m ↦ let z : k ≡ i = omega arith in rw z (p .0)
       ]
 
-  gather-each : (f : ℕ → List A) (i n : ℕ) → ((k : ℕ) → Each P (f k)) → Each P (gather f i n)
+  pub gather-each : (f : ℕ → List A) (i n : ℕ) → ((k : ℕ) → k < i + n → Each P (f k)) → Each P (gather f i n)
   unfolding gather
   gather-each f i zero p = tt
-  gather-each f i (suc n) p = append-each (f i) (gather f (suc i) n) (p i) (gather-each f (suc i) n p)
+  gather-each f i (suc n) p =
+      append-each (f i) (gather f (suc i) n) (p i (omega arith)) (gather-each f (suc i) n (λ k h. p k (omega arith)))
 
   each-gather : (f : ℕ → List A) (i n : ℕ) → Each P (gather f i n) → (k : ℕ) → i ≤ k → k < i + n → Each P (f k)
   unfolding gather
@@ -93,13 +95,19 @@ module _ {A : Type 0} (P : A → Type 0) where
         | no m ↦ let z : k ≡ i = omega arith in rw z (q .0)
       ]
 
-each-wider : {A : Type 0} (P Q : A → Type 0) (xs : List A) → ((x : A) → P x → Q x) → Each P xs → Each Q xs
+pub each-wider : {A : Type 0} (P Q : A → Type 0) (xs : List A) → ((x : A) → P x → Q x) → Each P xs → Each Q xs
 each-wider P Q [] f p = tt
 each-wider P Q (x ∷ xs) f p = (f x (p .0), each-wider P Q xs f (p .1))
 
 each-three : {A : Type 0} (P Q R : A → Type 0) (xs : List A) → Each P xs → Each Q xs → Each R xs → Each (λ (x : A). P x × Q x × R x) xs
 each-three P Q R [] p q r = tt
 each-three P Q R (x ∷ xs) p q r = ((p .0, q .0, r .0), each-three P Q R xs (p .1) (q .1) (r .1))
+
+-- the points of each pair
+pub pairs-each : (P : Point → Type 0) (f : Pair → List Point) (pairs : List Pair) → Each (λ (p : Pair). Each P (f p)) pairs → Each P (each f pairs)
+unfolding each
+pairs-each P f [] all = tt
+pairs-each P f (p ∷ ps) all = append-each P (f p) (each f ps) (all .0) (pairs-each P f ps (all .1))
 
 -- ---- points at which two records do not differ
 
@@ -123,11 +131,6 @@ module _ (a b : Content) where
       go rest false is e = (is, rest e)
 
   -- at the points of each pair
-  pairs-each : (f : Pair → List Point) (pairs : List Pair) → Each (λ (p : Pair). Each Alike (f p)) pairs → Each Alike (each f pairs)
-  unfolding each
-  pairs-each f [] all = tt
-  pairs-each f (p ∷ ps) all = append-each Alike (f p) (each f ps) (all .0) (pairs-each f ps (all .1))
-
   each-pairs : (f : Pair → List Point) (pairs : List Pair) → Each Alike (each f pairs) → Each (λ (p : Pair). Each Alike (f p)) pairs
   unfolding each
   each-pairs f [] all = tt
@@ -145,8 +148,8 @@ module _ (a b : Content) where
       append-each Alike (map presence pairs) (each fieldPoints pairs ++ each stringPoints pairs)
       (map-each Alike presence pairs (each-wider AlikeIn _ pairs (λ p x. x .0) all))
       (append-each Alike (each fieldPoints pairs) (each stringPoints pairs)
-      (pairs-each fieldPoints pairs (each-wider AlikeIn _ pairs (λ p x. x .1) all))
-      (pairs-each stringPoints pairs (each-wider AlikeIn _ pairs (λ p x. x .2) all)))
+      (pairs-each Alike fieldPoints pairs (each-wider AlikeIn _ pairs (λ p x. x .1) all))
+      (pairs-each Alike stringPoints pairs (each-wider AlikeIn _ pairs (λ p x. x .2) all)))
 
   alike-pairs : (pairs : List Pair) → Each Alike (pairPoints pairs) → Each AlikeIn pairs
   alike-pairs pairs all =
@@ -191,7 +194,7 @@ level-pair group index slot = go (eqb slot slotCount && eqb slot slotCount)
 level-extras : (indices : List ℕ) (group : ℕ) → Each Level (extraPairs indices indices group)
 unfolding extraPairs pairWith
 level-extras indices group =
-    gather-each Level (pairWith indices indices group) leastIndex (2 ^ 8 - leastIndex) (λ i. level-pair group i (slotWith indices group i))
+    gather-each Level (pairWith indices indices group) leastIndex (2 ^ 8 - leastIndex) (λ i h. level-pair group i (slotWith indices group i))
 
 level-pairs : (indices : List ℕ) → Each Level (pairsIn indices indices)
 unfolding pairsIn namedPair

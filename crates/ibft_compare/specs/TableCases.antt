@@ -1,4 +1,5 @@
--- Whole tables compared, by computation: what the three calls answer, where each table has what differs, refusals and their side.
+-- Whole tables compared, by computation: what the three calls answer, where each table has what differs, refusals and their
+-- side.
 use mathlib.Core.Path.{_≡_, refl}
 use mathlib.Core.List.{List, [], _∷_}
 use Prim.Native.Nat.{ℕ}
@@ -19,7 +20,8 @@ use Rattle.ibft_compare.specs.declared.difference.DifferenceReading.{Dif
 table : ℕ → List ℕ → List ℕ
 table flags name = sealed (write (words 110 3 126 (place 2 72 flags (blank 130))) 126 name)
 
--- flags 1 and the name `abc`; flags 3 and the name `abd`; no structure; the first with a byte changed and the sum left as it was
+-- flags 1 and the name `abc`; flags 3 and the name `abd`; no structure; the first with a byte changed and the sum left as it
+-- was
 one : List ℕ
 one = table 1 (97 ∷ 98 ∷ 99 ∷ [])
 

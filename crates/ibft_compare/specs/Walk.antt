@@ -1,15 +1,15 @@
 -- What the functions inside say: a walk along points, in which the differences are counted and the one asked for is kept.
 -- Callers need none of it. Assumes nothing: these are definitions.
-use Prim.Native.Nat.{ℕ, _+_, _-_, _<_}
+use Prim.Native.Nat.{ℕ, _+_, _-_, _≤_, _<_}
 use mathlib.Core.Path.{_≡_}
 use mathlib.Core.Logic.{_⊎_}
 use mathlib.Core.List.{List, [], _∷_}
 use mathlib.Core.Bool.{Bool, true, false, cond, not}
-use lib.ListN.{length}
+use lib.ListN.{length, getD}
 use lib.Dec.{eqb}
 use Rattle.octets.specs.Counting.{tabulate}
 use Rattle.octets.specs.Octets.{part}
-use Rattle.ibft_table.specs.Layout.{kindOf, slotCount, namedCount, extraNics, extraTargets}
+use Rattle.ibft_table.specs.Layout.{kindOf, slotCount, namedCount, extraMost, extraNics, extraTargets}
 use Rattle.ibft_table.specs.Table.{startsOf, indexIn}
 use Rattle.ibft_table.specs.Record.{contentOf}
 use Rattle.ibft_compare.specs.Pairs.{namedPair}
@@ -53,6 +53,10 @@ namedPairs = tabulate namedPair 0 namedCount
 
 abbrev pub ExtraGroup : ℕ → Type 0
 ExtraGroup group = (group ≡ extraNics) ⊎ (group ≡ extraTargets)
+
+-- no extra of the group has an Index between the two, in a table with these Indexes by slot
+abbrev pub NoneBetween : List ℕ → ℕ → ℕ → ℕ → Type 0
+NoneBetween indices group after next = (i : ℕ) → i < extraMost → after < getD indices (group + i) 0 → next ≤ getD indices (group + i) 0
 
 -- what is walked along: the presence of a pair, or its flags and fields, or its strings
 unfoldable pub pointsIn : Aspect → Pair → List Point

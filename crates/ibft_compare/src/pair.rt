@@ -5,14 +5,13 @@ use ibft_table::layout::index_of;
 use ibft_table::starts::index_in;
 use octets::read::byte_at;
 ghost use mathlib.Core.Path.{_≡_};
-ghost use Prim.Native.Nat.{ℕ, _+_, _≤_, _<_, max};
+ghost use Prim.Native.Nat.{_+_, _≤_, _<_};
 ghost use mathlib.Core.Bool.{_&&_};
-ghost use lib.ListN.{getD};
 ghost use lib.Dec.{eqb};
 ghost use Rattle.ibft_table.specs.Layout.{slotCount, extraMost};
 ghost use Rattle.ibft_table.specs.Table.{startsOf};
 ghost use Rattle.ibft_compare.specs.Pairs.{namedPair, slotWith};
-ghost use Rattle.ibft_compare.specs.Walk.{indicesOf};
+ghost use Rattle.ibft_compare.specs.Walk.{indicesOf, NoneBetween};
 
 // A structure that either table may have. Its group is its slot where it is a named one, the first slot of an extra of its kind
 // where it is an extra; group and Index name it. Then the slot that it has in the left table and in the right one:
@@ -77,26 +76,36 @@ pub(crate) fn slot_with(indices: &[u8], group: u8, index: u8) -> u8
     SLOT_COUNT
 }
 
-// The greater of the two.
-pub(crate) fn greater(a: u8, b: u8) -> u8
-    ensures { λ r. ⌜ r ≡ max a b ⌝ }
+// An Index is a byte; this is above every one.
+pub(crate) const INDEX_END: u16 = 256;
+
+// Of two numbers above `after`, the lesser; `index` counts only where it is above it.
+fn nearer(after: u16, next: u16, index: u8) -> u16
+    requires { ⌜ after < next ⌝ }
+    ensures { λ r. ⌜ (after < r) × (r ≤ next) × (after < index → r ≤ index) ⌝ }
 {
-    if a < b { b } else { a }
+    let index = index as u16;
+    if index <= after {
+        return next;
+    }
+    if next <= index {
+        return next;
+    }
+    index
 }
 
-// No extra of this group has a greater Index.
-pub(crate) fn last_index(indices: &[u8], group: u8) -> u8
-    requires { ⌜ group + extraMost ≤ slotCount ⌝ }
-    ensures { λ r. ⌜ ((i : ℕ) → i < extraMost → getD (now (indices .entry)) (group + i) 0 ≤ r) ⌝ }
+// The least Index above `after` that an extra of this group has in either table; `INDEX_END` where there is none.
+pub(crate) fn next_index(li: &[u8], ri: &[u8], group: u8, after: u16) -> u16
+    requires { ⌜ (group + extraMost ≤ slotCount) × (after < 256) ⌝ }
+    ensures { λ r. ⌜ (after < r) × (r ≤ 256) × NoneBetween (now (li .entry)) group after r × NoneBetween (now (ri .entry)) group after r ⌝ }
 {
-    let mut last: u8 = 0;
+    let mut next = INDEX_END;
     let mut i: u8 = 0;
     while i < EXTRA_MOST {
-        let index = byte_at(indices, (group + i) as usize);
-        if last < index {
-            last = index;
-        }
+        let at = (group + i) as usize;
+        let nearest = nearer(after, next, byte_at(li, at));
+        next = nearer(after, nearest, byte_at(ri, at));
         i += 1;
     }
-    last
+    next
 }

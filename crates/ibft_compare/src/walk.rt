@@ -3,10 +3,10 @@
 // the tables `left` and `right`, `ls` and `rs` are the starts by slot, `li` and `ri` the Indexes by slot.
 use crate::difference::Difference;
 use crate::difference::Stretch;
+use crate::pair::INDEX_END;
 use crate::pair::Pair;
-use crate::pair::greater;
 use crate::pair::indices_of;
-use crate::pair::last_index;
+use crate::pair::next_index;
 use crate::pair::slot_with;
 use crate::unequal::only_one;
 use crate::unequal::unequal;
@@ -448,7 +448,7 @@ fn meet_index(
     meet_pair(left, ls, right, rs, aspect, pair, met)
 }
 
-// Walks along one aspect of the extras of a group, by Index. (Past the last Index that a table has there is none.)
+// Walks along one aspect of the extras of a group, by Index, from one that a table has to the next.
 fn meet_extras(
     left: &[u8],
     ls: &[u16],
@@ -463,12 +463,11 @@ fn meet_extras(
     requires { ⌜ Starts (now left) (now ls) (now right) (now rs) × ExtraGroup group × (met .count ≤ 60000) ⌝ }
     ensures { λ r. ⌜ (r ≡ walked (now (left .entry)) (now (right .entry)) met (each (pointsIn aspect) (extraPairs (now (li .entry)) (now (ri .entry)) group))) × (r .count ≤ met .count + 2794) ⌝ }
 {
-    let last = greater(last_index(li, group), last_index(ri, group));
     let mut met = met;
-    let mut index: u16 = LEAST_INDEX as u16;
-    while index <= last as u16 {
+    let mut index = next_index(li, ri, group, LEAST_INDEX as u16 - 1);
+    while index < INDEX_END {
         met = meet_index(left, ls, li, right, rs, ri, aspect, group, index as u8, met);
-        index += 1;
+        index = next_index(li, ri, group, index);
     }
     met
 }
