@@ -64,7 +64,7 @@ meet-index-requires c κs =
 next-index-requires-2 : tie.Need-next-index-requires-2 Inv-loop μ-loop
 next-index-requires-2 c κs =
     let s = c .before .before .before .before .before .before .before .before .before .before in
-    (group-ends (s .args .group) (s .pre .1), c .before .loop-test .taken)
+    (group-ends (s .args .group) (s .pre .1), omega (arith, c .before .loop-test .taken))
 
 loop-again : tie.Need-loop-again Inv-loop μ-loop
 loop-again c =
