@@ -6,7 +6,7 @@ use octets::read::{byte_at, eight_at, six_at, u16_at};
 use scan::Family;
 use table_header::header::{OEM_ID_AT, OEM_TABLE_ID_AT};
 
-#[derive(Drop)]
+#[derive(Clone, Copy)]
 pub struct Abft {
     pub oem_id: [u8; 6],
     pub oem_table_id: [u8; 8],

@@ -6,7 +6,7 @@ use crate::check::check;
 use crate::fields::Abft;
 use table_header::verdict::{Refusal, refusal_of, shown_of};
 
-#[derive(Drop)]
+#[derive(Clone, Copy)]
 pub struct AbftReading {
     pub refusal: Refusal,
     pub fields: Abft,

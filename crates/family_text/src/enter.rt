@@ -35,7 +35,7 @@ const MARK_COUNT: usize = 16;
 
 // What a text was read as: why `line`, counted from 1, cannot be read, and the number of the field that it names; all 0 where
 // every line is read.
-#[derive(Drop)]
+#[derive(Clone, Copy)]
 pub struct Entered {
     pub reason: u8,
     pub line: usize,
@@ -43,7 +43,7 @@ pub struct Entered {
 }
 
 // What one line was read as.
-#[derive(Drop)]
+#[derive(Clone, Copy)]
 struct LineRead {
     reason: u8,
     field: u8,

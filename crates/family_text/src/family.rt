@@ -8,7 +8,7 @@ use octets::read::{byte_at, part};
 use text::split::{field_text, index_of, same, trimmed};
 
 // A line, counted from 1, that is of another family than its text, and which; 0 and 0 where there is none.
-#[derive(Drop)]
+#[derive(Clone, Copy)]
 pub struct Stray {
     pub line: usize,
     pub family: u8,

@@ -19,7 +19,7 @@ pub const SBFT: u8 = 2;
 pub const NONE: u8 = 3;
 
 // How a value is written.
-#[derive(Drop)]
+#[derive(Clone, Copy)]
 pub enum Notation {
     Oem,
     Number,
@@ -29,7 +29,7 @@ pub enum Notation {
 
 // A field: its notation, the part of a table in which it stands (0 is the table's start; 1, 2, 3 are the SCSI, SRP and IB
 // part), its place there, and how many bytes it has.
-#[derive(Drop)]
+#[derive(Clone, Copy)]
 pub struct FieldLayout {
     pub notation: Notation,
     pub part: u8,

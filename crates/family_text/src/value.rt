@@ -15,7 +15,7 @@ use notation::number::{Number, read_number};
 use notation::pairs::read_pairs;
 
 // A value that was read: its bytes, with zeros behind them; all zero where it cannot be read.
-#[derive(Drop)]
+#[derive(Clone, Copy)]
 pub struct Value {
     pub ok: bool,
     pub bytes: [u8; 16],

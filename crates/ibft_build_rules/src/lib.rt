@@ -5,7 +5,7 @@ pub mod range;
 use table_header::verdict::Refusal;
 
 // What a build answers: its refusal (all 0 where it is accepted) and the table's Length.
-#[derive(Drop)]
+#[derive(Clone, Copy)]
 pub struct Built {
     pub refusal: Refusal,
     pub length: u32,

@@ -14,7 +14,7 @@ use octets::read::part;
 use table_header::verdict::{ACCEPTED, Verdict};
 
 // The verdict on two tables, the left one's refusal first, and whose it is.
-#[derive(Drop)]
+#[derive(Clone, Copy)]
 struct Judged {
     verdict: Verdict,
     side: u8,

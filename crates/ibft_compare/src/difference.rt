@@ -3,7 +3,7 @@ use table_header::verdict::Refusal;
 
 // What differs. A structure is named by its kind's ID and its Index; a field of it, and an entry, also by where it stands in
 // the structure: the flags at 5, an entry by its length.
-#[derive(Drop)]
+#[derive(Clone, Copy)]
 pub enum Difference {
     Nothing,
     OemId,
@@ -16,14 +16,14 @@ pub enum Difference {
 
 // Bytes of a table: where they start and how many they are. A table has nothing to name at 0: what starts there is not in the
 // table.
-#[derive(Drop)]
+#[derive(Clone, Copy)]
 pub struct Stretch {
     pub start: u32,
     pub length: u16,
 }
 
 // How many differences two tables have; or the refusal, and whose it is: 0 the left table's, 1 the right one's.
-#[derive(Drop)]
+#[derive(Clone, Copy)]
 pub struct Compared {
     pub refusal: Refusal,
     pub side: u8,
@@ -31,7 +31,7 @@ pub struct Compared {
 }
 
 // One of them: what differs, where each table has it, and for an entry the differing bytes of the left table's.
-#[derive(Drop)]
+#[derive(Clone, Copy)]
 pub struct DifferenceReading {
     pub refusal: Refusal,
     pub side: u8,

@@ -12,7 +12,7 @@ use octets::read::byte_at;
 // A structure that either table may have. Its group is its slot where it is a named one, the first slot of an extra of its kind
 // where it is an extra; group and Index name it. Then the slot that it has in the left table and in the right one:
 // `SLOT_COUNT`, where nothing is ever present, for an extra that this table has not.
-#[derive(Drop)]
+#[derive(Clone, Copy)]
 pub struct Pair {
     pub group: u8,
     pub index: u8,

@@ -27,7 +27,7 @@ use octets::read::{byte_at, part, u16_at};
 use table_header::header::{OEM_ID_AT, OEM_TABLE_ID_AT};
 
 // What is walked along of a pair of structures.
-#[derive(Drop)]
+#[derive(Clone, Copy)]
 pub enum Aspect {
     Presence,
     Fields,
@@ -35,7 +35,7 @@ pub enum Aspect {
 }
 
 // What the walk has met so far: how many differences, and the one asked for, counted from 0, once it is met.
-#[derive(Drop)]
+#[derive(Clone, Copy)]
 pub struct Met {
     pub wanted: u16,
     pub count: u16,

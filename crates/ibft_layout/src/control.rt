@@ -2,7 +2,7 @@
 use crate::shape::FLAGS_AT;
 
 // Its flags; the words that say where the other structures start are read one by one.
-#[derive(Drop)]
+#[derive(Clone, Copy)]
 pub struct Control {
     pub flags: u8,
 }

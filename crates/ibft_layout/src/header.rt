@@ -1,5 +1,5 @@
 // The header of a table, with Control's flags.
-#[derive(Drop)]
+#[derive(Clone, Copy)]
 pub struct Header {
     pub oem_id: [u8; 6],
     pub oem_table_id: [u8; 8],

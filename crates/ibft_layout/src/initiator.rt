@@ -6,7 +6,7 @@ ghost use Rattle.ibft_layout.specs.Shapes.{shape_of, field_shape};
 use crate::shape::{FLAGS, FieldShape, LONGEST_NAME, Shape, StringShape, words_of};
 use crate::string_words::StringWords;
 
-#[derive(Drop)]
+#[derive(Clone, Copy)]
 pub struct Initiator {
     pub flags: u8,
     pub isns: [u8; 16],

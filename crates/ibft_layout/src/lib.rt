@@ -1,4 +1,6 @@
 // The layout of the iSCSI Boot Firmware Table as data: its structures, their fields and strings, the slots, the entries.
+#![tactic(auto)]
+
 pub mod control;
 pub mod header;
 pub mod initiator;

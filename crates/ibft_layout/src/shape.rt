@@ -3,7 +3,7 @@ ghost use Rattle.std.specs.Prelude.{◌≡◌};
 ghost use Rattle.ibft_layout.specs.Shapes.{shape_start};
 
 // A kind of structure: what it starts with, the mask of its flag bits that are not named, whether it has a CHAP type.
-#[derive(Drop)]
+#[derive(Clone, Copy)]
 pub struct Shape {
     pub id: u8,
     pub version: u8,
@@ -34,7 +34,7 @@ pub(crate) const LONGEST_NAME: u16 = 223;
 pub(crate) const LONGEST: u16 = 255;
 
 // A field of a structure: where it stands, how many bytes it has.
-#[derive(Drop)]
+#[derive(Clone, Copy)]
 pub struct FieldShape {
     pub at: u16,
     pub width: u8,
@@ -52,7 +52,7 @@ pub(crate) const FLAGS: FieldShape = FieldShape {
 
 // A string of a structure: where its length stands (its offset stands 2 further), how long it may be, whether it is a
 // host name, whether it is a secret.
-#[derive(Drop)]
+#[derive(Clone, Copy)]
 pub struct StringShape {
     pub at: u16,
     pub longest: u16,

@@ -5,7 +5,7 @@ ghost use Rattle.ibft_layout.specs.Shapes.{string_words_at};
 use octets::read::{byte_at, u16_at};
 
 // An entry's length and offset, as its structure holds them.
-#[derive(Drop)]
+#[derive(Clone, Copy)]
 pub struct StringWords {
     pub length: u16,
     pub offset: u16,

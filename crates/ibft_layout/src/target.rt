@@ -6,7 +6,7 @@ ghost use Rattle.ibft_layout.specs.Shapes.{shape_of, field_shape};
 use crate::shape::{FLAGS, FieldShape, LONGEST, LONGEST_NAME, Shape, StringShape, words_of};
 use crate::string_words::StringWords;
 
-#[derive(Drop)]
+#[derive(Clone, Copy)]
 pub struct Target {
     pub flags: u8,
     pub address: [u8; 16],

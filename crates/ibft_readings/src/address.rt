@@ -4,7 +4,7 @@ ghost use Rattle.ibft_readings.specs.Readings.{address_kind_of, address_number};
 
 use octets::read::all_zero;
 
-#[derive(Drop)]
+#[derive(Clone, Copy)]
 pub enum AddressKind {
     Absent,
     Ipv4Mapped,

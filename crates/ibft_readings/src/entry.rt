@@ -10,7 +10,7 @@ use ibft_table::starts::{entry_at, holds_entry, string_words_at};
 use octets::read::{part, u16_at};
 use table_header::verdict::{ACCEPTED, Refusal, Verdict};
 
-#[derive(Drop)]
+#[derive(Clone, Copy)]
 pub struct EntryReading {
     pub refusal: Refusal,
     pub offset: u16,

@@ -20,7 +20,7 @@ fn header_in(t: &[u8]) -> Header
     }
 }
 
-#[derive(Drop)]
+#[derive(Clone, Copy)]
 pub struct HeaderReading {
     pub refusal: Refusal,
     pub header: Header,

@@ -24,7 +24,7 @@ fn initiator_in(part: &[u8]) -> Initiator
     }
 }
 
-#[derive(Drop)]
+#[derive(Clone, Copy)]
 pub struct InitiatorReading {
     pub refusal: Refusal,
     pub fields: Initiator,

@@ -18,7 +18,7 @@ use table_header::verdict::{ACCEPTED, Refusal, Verdict};
 const TARGET_COUNT: u8 = 8;
 
 // How many of the eight places are used; a used place holds the target's Index (which may be 255 itself), an unused one 255.
-#[derive(Drop)]
+#[derive(Clone, Copy)]
 pub struct LoginOrder {
     pub refusal: Refusal,
     pub used: u8,

@@ -31,7 +31,7 @@ fn nic_in(part: &[u8]) -> Nic
     }
 }
 
-#[derive(Drop)]
+#[derive(Clone, Copy)]
 pub struct NicReading {
     pub refusal: Refusal,
     pub index: u8,

@@ -3,7 +3,7 @@ ghost use Rattle.std.specs.Prelude.{◌≡◌};
 ghost use Rattle.ibft_readings.specs.Readings.{pci_of};
 
 // The parts of a PCI word.
-#[derive(Drop)]
+#[derive(Clone, Copy)]
 pub struct Pci {
     pub bus: u8,
     pub device: u8,

@@ -17,7 +17,7 @@ use octets::read::{byte_at, part};
 use table_header::verdict::{ACCEPTED, Refusal, Verdict, shown_of};
 
 // A structure by slot: its kind as its ID, its Index, its start, its flags.
-#[derive(Drop)]
+#[derive(Clone, Copy)]
 pub struct StructureReading {
     pub refusal: Refusal,
     pub id: u8,

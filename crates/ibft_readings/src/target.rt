@@ -30,7 +30,7 @@ fn target_in(part: &[u8]) -> Target
     }
 }
 
-#[derive(Drop)]
+#[derive(Clone, Copy)]
 pub struct TargetReading {
     pub refusal: Refusal,
     pub index: u8,

@@ -18,21 +18,21 @@ use text::put::{put_char, put_text};
 use text::split::index_of;
 
 // The address that a text is; all 0 where it is none.
-#[derive(Drop)]
+#[derive(Clone, Copy)]
 pub struct AddressRead {
     pub ok: bool,
     pub bytes: [u8; 16],
 }
 
 // The four bytes that a text of IPv4 is; all 0 where it is none.
-#[derive(Drop)]
+#[derive(Clone, Copy)]
 struct FourRead {
     ok: bool,
     bytes: [u8; 4],
 }
 
 // Groups of an address: the first of them, and how many they are.
-#[derive(Drop)]
+#[derive(Clone, Copy)]
 struct Run {
     start: u8,
     size: u8,

@@ -12,14 +12,14 @@ use octets::read::byte_at;
 use text::put::{put_char, put_text};
 
 // What a text stands for: a string of so many bytes, or none.
-#[derive(Drop)]
+#[derive(Clone, Copy)]
 pub enum Decoded {
     Length(usize),
     Bad,
 }
 
 // A piece of a text: how many bytes it takes and the byte that it stands for. Where none begins, it takes no bytes.
-#[derive(Drop)]
+#[derive(Clone, Copy)]
 struct Piece {
     size: usize,
     byte: u8,

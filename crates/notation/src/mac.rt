@@ -6,7 +6,7 @@ ghost use Rattle.notation.specs.Mac.{read_mac, mac_answer, mac_text};
 use crate::pairs::{put_pairs, read_pairs};
 
 // What a text is read as: the six bytes, or not ok and zeros.
-#[derive(Drop)]
+#[derive(Clone, Copy)]
 pub struct MacRead {
     pub ok: bool,
     pub bytes: [u8; 6],

@@ -8,7 +8,7 @@ use octets::read::{byte_at, part};
 use text::put::put_char;
 
 // What a text is read as: a number, or none.
-#[derive(Drop)]
+#[derive(Clone, Copy)]
 pub enum Number {
     Value(u64),
     Bad,

@@ -9,7 +9,7 @@ use octets::read::byte_at;
 use text::put::put_char;
 
 // What a text is read as: a PCI word, or none.
-#[derive(Drop)]
+#[derive(Clone, Copy)]
 pub enum PciRead {
     Word(u16),
     Bad,

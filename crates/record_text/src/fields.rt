@@ -21,7 +21,7 @@ use text::split::{index_of, same};
 use text::words::{word_at, word_number};
 
 // How a field's value is written.
-#[derive(Drop)]
+#[derive(Clone, Copy)]
 pub enum Notation {
     Oem,
     Mode,
@@ -37,7 +37,7 @@ pub enum Notation {
 
 // A field: how its value is written; where it stands, for a structure's field in the structure's image, else in the record
 // range; how many bytes it has there (a string's are its two words).
-#[derive(Drop)]
+#[derive(Clone, Copy)]
 pub struct FieldLayout {
     pub notation: Notation,
     pub at: u16,
@@ -45,7 +45,7 @@ pub struct FieldLayout {
 }
 
 // A field by name: the kind of its group, the group's Index (0 where the kind has none), its number in the group.
-#[derive(Drop)]
+#[derive(Clone, Copy)]
 pub struct FieldName {
     pub kind: u8,
     pub index: u8,
@@ -53,7 +53,7 @@ pub struct FieldName {
 }
 
 // What a name names.
-#[derive(Drop)]
+#[derive(Clone, Copy)]
 pub enum Found {
     Named(FieldName),
     Nothing,

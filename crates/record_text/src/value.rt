@@ -21,7 +21,7 @@ use octets::write::put_bytes;
 use text::words::{WordSet, read_word_set, word_number};
 
 // A value that was read: its bytes, with zeros behind them; all zero where it cannot be read.
-#[derive(Drop)]
+#[derive(Clone, Copy)]
 pub struct Value {
     pub ok: bool,
     pub bytes: [u8; 16],

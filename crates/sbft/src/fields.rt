@@ -6,7 +6,7 @@ use octets::read::{eight_at, part, six_at, sixteen_at, u16_at};
 use table_header::header::{OEM_ID_AT, OEM_TABLE_ID_AT};
 
 // Of a table's start: the OEM fields.
-#[derive(Drop)]
+#[derive(Clone, Copy)]
 pub struct Start {
     pub oem_id: [u8; 6],
     pub oem_table_id: [u8; 8],
@@ -34,7 +34,7 @@ impl Start {
 }
 
 // The SCSI part.
-#[derive(Drop)]
+#[derive(Clone, Copy)]
 pub struct Scsi {
     pub lun: [u8; 8],
 }
@@ -53,7 +53,7 @@ impl Scsi {
 }
 
 // The SRP part.
-#[derive(Drop)]
+#[derive(Clone, Copy)]
 pub struct Srp {
     pub initiator_port: [u8; 16],
     pub target_port: [u8; 16],
@@ -76,7 +76,7 @@ impl Srp {
 }
 
 // The IB part.
-#[derive(Drop)]
+#[derive(Clone, Copy)]
 pub struct Ib {
     pub source_gid: [u8; 16],
     pub destination_gid: [u8; 16],

@@ -5,7 +5,7 @@ ghost use Rattle.sbft.specs.Layout.{part_of, offset_of, absent, end_of};
 use octets::read::u16_at;
 
 // A part: where its offset stands, how many bytes it has, whether it may be absent (offset 0), where a written table has it.
-#[derive(Drop)]
+#[derive(Clone, Copy)]
 pub struct Part {
     pub word: u16,
     pub size: u16,

@@ -11,25 +11,25 @@ use crate::layout::{Part, absent, offset_of, part_of};
 use octets::read::part;
 use table_header::verdict::{Refusal, Verdict, refusal_of, refuse, shown_of};
 
-#[derive(Drop)]
+#[derive(Clone, Copy)]
 pub struct StartReading {
     pub refusal: Refusal,
     pub fields: Start,
 }
 
-#[derive(Drop)]
+#[derive(Clone, Copy)]
 pub struct ScsiReading {
     pub refusal: Refusal,
     pub fields: Scsi,
 }
 
-#[derive(Drop)]
+#[derive(Clone, Copy)]
 pub struct SrpReading {
     pub refusal: Refusal,
     pub fields: Srp,
 }
 
-#[derive(Drop)]
+#[derive(Clone, Copy)]
 pub struct IbReading {
     pub refusal: Refusal,
     pub fields: Ib,

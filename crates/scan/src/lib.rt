@@ -1,4 +1,6 @@
 // Finds a table of a family in lent memory. The caller lends the bytes and gives the address of the first.
+#![tactic(auto)]
+
 ghost use Rattle.std.specs.Prelude.{◌≡◌, ◌+◌, ◌%◌, ◌<◌, ◌^◌, length, eqb};
 ghost use Rattle.octets.specs.Octets.{sum};
 ghost use Rattle.scan.specs.Scan.{sound_at, lowest, refused};
@@ -9,7 +11,7 @@ use octets::sum::checksum;
 
 // What marks a table: its first four bytes as a little-endian number, the window of addresses from `low` up to `high`,
 // the least Length.
-#[derive(Drop)]
+#[derive(Clone, Copy)]
 pub struct Family {
     pub signature: u32,
     pub low: u64,
@@ -44,7 +46,7 @@ impl Family {
 }
 
 // What a scan answers: its number, 0 where a table is found, with the table's address and Length.
-#[derive(Drop)]
+#[derive(Clone, Copy)]
 pub struct Scanned {
     pub number: u8,
     pub address: u64,

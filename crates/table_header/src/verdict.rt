@@ -5,14 +5,14 @@ ghost use Rattle.table_header.specs.declared.verdict.Verdict.TheVariants.{Accept
 
 // A refusal's number and place (RULES.md, Terms), and with 6 the checksum byte that would be right, which may be 0; with any
 // other number that byte is 0. An accepted call has 0 in all three.
-#[derive(Drop)]
+#[derive(Clone, Copy)]
 pub struct Refusal {
     pub number: u8,
     pub place: u32,
     pub checksum: u8,
 }
 
-#[derive(Drop)]
+#[derive(Clone, Copy)]
 pub enum Verdict {
     Accepted,
     Refused(Refusal),

@@ -12,7 +12,7 @@ use octets::sum::checksum;
 use octets::write::{put_byte, put_bytes};
 
 // What a write answers: its refusal (all 0 where it is accepted) and the table's Length.
-#[derive(Drop)]
+#[derive(Clone, Copy)]
 pub struct Written {
     pub refusal: Refusal,
     pub length: u32,

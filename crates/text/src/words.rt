@@ -8,7 +8,7 @@ use crate::put::{put_char, put_text};
 use crate::split::{before_blank, index_of, same, trimmed};
 
 // What a text says of a set of words: the set, of which bit k says whether word k is in it; or it is no such text.
-#[derive(Drop)]
+#[derive(Clone, Copy)]
 pub enum WordSet {
     Value(u8),
     Bad,

@@ -10,39 +10,34 @@ use Rattle.scan.proofs.ScanLaws.{unaligned, sixteen-more, lowest-at, lowest-none
 use Rattle.scan.proofs.find.Statement.{statement}
 use Rattle.scan.proofs.find.Tie as tie
 
-abbrev invariant-loop : tie.invariant-loop
+abbrev invariant-loop : tie.invariant-loop-k
 invariant-loop f mem address k₀ k = ((address + k) % 16 ≡ 0) × ((i : ℕ) → i < k → sound_at f mem address i ≡ false)
 
-abbrev decreases-loop : tie.decreases-loop
+abbrev decreases-loop : tie.decreases-loop-k
 decreases-loop f mem address k₀ k = length mem - k
 
-loop-holds : tie.Need-loop-init invariant-loop decreases-loop
+loop-holds : tie.Need-loop-k-init invariant-loop decreases-loop
 loop-holds c =
-    let a = c.before.args in
+    let a = c.args in
     (omega arith, λ i h. unaligned a.f a.mem.now a.address i (omega arith))
 
-loop-again : tie.Need-loop-preserved invariant-loop decreases-loop
+loop-again : tie.Need-loop-k-preserved invariant-loop decreases-loop
 loop-again c =
-    let at-sound = c.before in
-    let at-loop = at-sound.before.before in
-    let at-start = at-loop.before.before in
-    let a = at-start.args in
-    let l = at-loop.loop in
-    (omega arith, sixteen-more a.f a.mem.now a.address l.k l.invariant.0 (sym at-sound.sound.ensures ∙ c.if2.false) l.invariant.1)
+    let a = c.args in
+    let l = c.loop-k in
+    (omega arith, sixteen-more a.f a.mem.now a.address l.k l.invariant.0 (sym c.sound.ensures ∙ c.if-sound.false) l.invariant.1)
 
-returns : tie.Need-returns invariant-loop decreases-loop
+returns : tie.Need-returns-then-mem-k invariant-loop decreases-loop
 returns c =
-    let a = c.before.before.before.args in
-    lowest-none a.f a.mem.now a.address c.before.loop.k c.if1.true c.before.loop.invariant.1
+    let a = c.args in
+    lowest-none a.f a.mem.now a.address c.loop-k.k c.if-mem-k.true c.loop-k.invariant.1
 
-returns-2 : tie.Need-returns-2 invariant-loop decreases-loop
+returns-2 : tie.Need-returns-then-sound invariant-loop decreases-loop
 returns-2 c =
-    let at-sound = c.before in
-    let at-loop = at-sound.before.before in
-    let at-start = at-loop.before.before in
-    let a = at-start.args in
-    let l = at-loop.loop in
-    lowest-at a.f a.mem.now a.address l.k (omega arith) (sym at-sound.sound.ensures ∙ c.if2.true) l.invariant.1
+    let a = c.args in
+    let l = c.loop-k in
+    lowest-at a.f a.mem.now a.address l.k (omega arith) (sym c.sound.ensures ∙ c.if-sound.true) l.invariant.1
 
 pub find_spec : {M : Type 1} → statement M
-find_spec = tie.close (tie.spec invariant-loop decreases-loop (search rules) loop-holds (search rules) (search rules) (search rules) loop-again returns returns-2)
+find_spec = tie.close (tie.spec invariant-loop decreases-loop (search rules) loop-holds (search rules) (search rules)
+    (search rules) loop-again returns returns-2)

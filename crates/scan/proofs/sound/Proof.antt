@@ -14,51 +14,51 @@ use Rattle.scan.specs.Scan.{sound_at, length_at}
 use Rattle.scan.proofs.sound.Statement.{statement}
 use Rattle.scan.proofs.sound.Tie as tie
 
-returns : tie.Need-returns
+returns : tie.Need-returns-then-mem-k
 unfolding sound_at
 returns c =
-    let a = c.before.before.before.before.args in
-    let first = c.before.before.shared-slice-known2.given a.k in
+    let a = c.args in
+    let first = c.shared_slice_known-2-1.given a.k in
     simp (ne_eqb (word32 a.mem.now a.k) a.f.signature (λ e. omega arith), and-false)
 
-returns-2 : tie.Need-returns-2
+returns-2 : tie.Need-returns-then-u32_at-f
 unfolding sound_at
 returns-2 c =
-    let a = c.before.before.before.before.before.before.before.args in
+    let a = c.args in
     simp (ne_eqb (word32 a.mem.now a.k) a.f.signature (omega arith), and-false)
 
-returns-3 : tie.Need-returns-3
+returns-3 : tie.Need-returns-then-size-f
 unfolding sound_at
 returns-3 c =
-    let a = c.before.before.before.before.before.before.before.before.before.before.args in
+    let a = c.args in
     simp (lt-leb a.f.least (length_at a.mem.now a.k) (omega arith), and-false)
 
-returns-4 : tie.Need-returns-4
+returns-4 : tie.Need-returns-then-place-f
 unfolding sound_at
 returns-4 c =
-    let a = c.before.before.before.before.before.before.before.before.before.before.before.before.args in
+    let a = c.args in
     simp (lt-leb a.f.low (a.address + a.k) (omega arith), and-false)
 
-returns-5 : tie.Need-returns-5
+returns-5 : tie.Need-returns-then-mem-k-2
 unfolding sound_at
 returns-5 c =
-    let a = c.before.before.before.before.before.before.before.before.before.before.before.before.before.args in
+    let a = c.args in
     simp (lt-leb (a.k + length_at a.mem.now a.k) (length a.mem.now) (omega arith), and-false)
 
-returns-6 : tie.Need-returns-6
+returns-6 : tie.Need-returns-then-f-place
 unfolding sound_at
 returns-6 c =
-    let a = c.before.before.before.before.before.before.before.before.before.before.before.before.before.before.before.args in
+    let a = c.args in
     simp (lt-leb (a.address + a.k + length_at a.mem.now a.k) a.f.high (omega arith), and-false)
 
-returns-7 : tie.Need-returns-7
+returns-7 : tie.Need-returns
 unfolding sound_at
 returns-7 c =
-    let a = c.before.before.before.before.before.before.before.before.before.before.before.before.before.before.before.before.before.args in
+    let a = c.args in
     let t = a.mem.now in
     let n = length_at t a.k in
-    let size = c.before.before.before.before.before.before.before.before.before.u32-at2 in
-    let table : c.before.part.result.now ≡ part t a.k size.result = c.before.part.ensures.bytes in
+    let size = c.u32_at-size in
+    let table : c.part-table.result.now ≡ part t a.k size.result = c.part-table.ensures.bytes in
     simp (
       eq-eqb ((a.address + a.k) % 16) 0 (omega arith),
       eq-eqb (word32 t a.k) a.f.signature (omega arith),
@@ -67,9 +67,9 @@ returns-7 c =
       le-leb (a.k + n) (length t) (omega arith),
       le-leb (a.address + a.k + n) a.f.high (omega arith),
     )
-    (c.sums-to-zero.ensures ∙ ap (λ (l : List ℕ). eqb (sum l % 256) 0) (table ∙ ap (part t a.k) size.ensures))
+    (c.sums_to_zero.ensures ∙ ap (λ (l : List ℕ). eqb (sum l % 256) 0) (table ∙ ap (part t a.k) size.ensures))
 
-pub sound-spec : {M : Type 1} → statement M
-sound-spec = tie.close (tie.spec (search rules) (search rules) returns (search rules) returns-2 (search rules)
+pub sound_spec : {M : Type 1} → statement M
+sound_spec = tie.close (tie.spec (search rules) (search rules) returns (search rules) returns-2 (search rules)
     (search rules) returns-3 (search rules) returns-4 (search rules) (search rules) returns-5 (search rules)
     (search rules) returns-6 (search rules) (search rules) (search rules) returns-7)

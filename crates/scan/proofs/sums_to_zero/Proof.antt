@@ -10,9 +10,9 @@ use Rattle.scan.proofs.sums_to_zero.Tie as tie
 
 returns : tie.Need-returns
 returns c =
-    let t = c.before.before.before.args.table.now in
+    let t = c.args.table.now in
     let below : byte t 9 < 256 = rw (← c.byte_at.ensures) (search rules) in
-    ap₂ eqb c.before.checksum.ensures.checksum-is c.byte_at.ensures ∙ sums-to-zero t 9 below
+    ap₂ eqb c.checksum.ensures.checksum-is c.byte_at.ensures ∙ sums-to-zero t 9 below
 
-pub sums-to-zero-spec : {M : Type 1} → statement M
-sums-to-zero-spec = tie.close (tie.spec (search rules) (search rules) returns)
+pub sums_to_zero_spec : {M : Type 1} → statement M
+sums_to_zero_spec = tie.close (tie.spec (search rules) (search rules) returns)

@@ -8,14 +8,11 @@ use borrow.Author.Rules.{rules}
 use Rattle.scan.proofs.table_for.Statement.{statement}
 use Rattle.scan.proofs.table_for.Tie as tie
 
-returns : tie.Need-returns
+returns : tie.Need-returns-then-found-ne0
 returns c =
-    let at-if1 = c.before in
-    let at-scan-for = at-if1.before.before in
-    let at-start = at-scan-for.before.before in
-    let a = at-start.args in
-    let scanned = at-scan-for.scan-for in
-    shows_nothing a.f a.mem _ a.address scanned.result scanned.ensures.answer-is at-if1.if1.true
+    let a = c.args in
+    let scanned = c.scan_for-found in
+    shows_nothing a.f a.mem _ a.address scanned.result scanned.ensures.answer-is c.if-found-ne0.true
     (c.part.ensures.bytes ∙ part_none a.mem.now 0)
 
 sub_part : tie.Need-overflow-sub-part
@@ -26,16 +23,14 @@ sub_part c =
     let scanned = at-scan-for.scan-for in
     (found_within a.f a.mem.now a.address scanned.result scanned.ensures (omega arith)).1
 
-returns-2 : tie.Need-returns-2
+returns-2 : tie.Need-returns
 returns-2 c =
-    let at-scan-for = c.before.before.before.before.before in
-    let at-start = at-scan-for.before.before in
-    let a = at-start.args in
-    let scanned = at-scan-for.scan-for in
+    let a = c.args in
+    let scanned = c.scan_for-found in
     let inside = found_within a.f a.mem.now a.address scanned.result scanned.ensures (omega arith) in
     shows-table a.f a.mem _ a.address scanned.result scanned.ensures.answer-is (omega arith)
-    (c.part2.ensures.shows (omega arith))
+    (c.part-2.ensures.shows (omega arith))
 
-pub table-for-spec : {M : Type 1} → statement M
-table-for-spec =
-    tie.close (tie.spec (search rules) (search rules) returns sub_part (search rules) (search rules) returns-2)
+pub table_for_spec : {M : Type 1} → statement M
+table_for_spec = tie.close (tie.spec (search rules) (search rules) returns (search rules) (search rules)
+    (search rules) returns-2)

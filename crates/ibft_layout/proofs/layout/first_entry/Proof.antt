@@ -13,32 +13,21 @@ use Rattle.ibft_layout.proofs.layout.first_entry.Tie as tie
 row : (m k : ℕ) → k ≡ m → first_entry m ≡ first_entry k
 row m k e = ap first_entry (sym e)
 
-past : tie.Need-returns
-past c = first_past c.before.args.k (omega arith)
+past : tie.Need-returns-then-k-ge-SLOT_COUNT
+past c = first_past c.args.k (omega arith)
 
-of-target : tie.Need-returns-2
-of-target c = first-target c.before.before.args.k (omega arith) (omega arith)
+of-target : tie.Need-returns-then-k-ge-EXTRA_TARGETS
+of-target c = first-target c.args.k (omega arith) (omega arith)
 
-of-nic : tie.Need-returns-3
-of-nic c = first-nic c.before.before.before.args.k (omega arith) (omega arith)
+of-nic : tie.Need-returns-then-k-ge-EXTRA_NICS
+of-nic c = first-nic c.args.k (omega arith) (omega arith)
 
-rest : tie.Need-returns-8
+rest : tie.Need-returns-in_default
 unfolding first_entry sum_to kind_of
-rest c = last_arm first_entry 4 _ c.match.rest (λ h. absurd (omega arith))
+rest c = last_arm first_entry 4 _ c.in_default.in_default-own.rest (λ h. absurd (omega arith))
 
-pub first-entry-spec : {M : Type 1} → statement M
+pub first_entry_spec : {M : Type 1} → statement M
 unfolding first_entry sum_to kind_of
-first-entry-spec =
-    tie.close
-    (tie.spec
-    (search rules) (search rules) (search rules)
-    past
-    (search rules) (search rules) (search rules) (search rules)
-    of-target
-    (search rules) (search rules) (search rules)
-    of-nic
-    (λ c. row 1 _ c.match.keys1)
-    (λ c. row 2 _ c.match.keys2)
-    (λ c. row 3 _ c.match.keys3)
-    (λ c. row 4 _ c.match.keys4)
-    rest)
+first_entry_spec = tie.close (tie.spec (search rules) (search rules) (search rules) past (search rules) (search rules)
+    (search rules) (search rules) of-target (search rules) (search rules) (search rules) of-nic
+    (λ c. row 1 _ c.in-1.is) (λ c. row 2 _ c.in-2.is) (λ c. row 3 _ c.in-3.is) (λ c. row 4 _ c.in-4.is) rest)

@@ -10,17 +10,11 @@ use Rattle.ibft_layout.proofs.layout.index_of.Tie as tie
 row : (m n : ℕ) → n ≡ m → index_of m ≡ index_of n
 row m n e = ap (index_of) (sym e)
 
-rest : tie.Need-returns-5
+rest : tie.Need-returns-in_default
 unfolding index_of
-rest c = last_arm index_of 4 _ c.match.rest (λ h. index-past _ h)
+rest c = last_arm index_of 4 _ c.in_default.in_default-own.rest (λ h. index-past _ h)
 
-pub index-of-spec : {M : Type 1} → statement M
+pub index_of_spec : {M : Type 1} → statement M
 unfolding index_of
-index-of-spec =
-    tie.close
-    (tie.spec
-    (λ c. row 1 _ c.match.keys1)
-    (λ c. row 2 _ c.match.keys2)
-    (λ c. row 3 _ c.match.keys3)
-    (λ c. row 4 _ c.match.keys4)
-    rest)
+index_of_spec = tie.close (tie.spec (λ c. row 1 _ c.in-1.is) (λ c. row 2 _ c.in-2.is) (λ c. row 3 _ c.in-3.is)
+    (λ c. row 4 _ c.in-4.is) rest)

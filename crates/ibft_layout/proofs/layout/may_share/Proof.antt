@@ -9,7 +9,7 @@ use Rattle.ibft_layout.proofs.layout.may_share.Tie as tie
 
 returns : tie.Need-returns
 unfolding may_share
-returns c = ap (λ (s : StringShape). not s.secret) c.before.string-of.ensures
+returns c = ap (λ (s : StringShape). not s.secret) c.string_of.ensures
 
-pub may-share-spec : {M : Type 1} → statement M
-may-share-spec = tie.close (tie.spec (search rules) returns)
+pub may_share_spec : {M : Type 1} → statement M
+may_share_spec = tie.close (tie.spec (search rules) returns)

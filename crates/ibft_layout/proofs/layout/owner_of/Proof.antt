@@ -8,22 +8,22 @@ use borrow.Author.Rules.{rules}
 use Rattle.ibft_layout.proofs.layout.owner_of.Statement.{statement}
 use Rattle.ibft_layout.proofs.layout.owner_of.Tie as tie
 
-returns-2 : tie.Need-returns-2
+returns-2 : tie.Need-returns-then-n-2
 returns-2 c =
-    let n = c.before.before.args.n in
+    let n = c.args.n in
     sym (owner-extra n (omega arith) ∙ rw (le-ltb n named_entries (omega arith), lt-ltb n target_entries (omega arith)))
 
-returns-3 : tie.Need-returns-3
+returns-3 : tie.Need-returns-then-n-3
 returns-3 c =
-    let n = c.before.before.before.args.n in
+    let n = c.args.n in
     sym (owner-extra n (omega arith) ∙ rw (le-ltb n named_entries (omega arith), le-ltb n target_entries (omega arith)))
 
-returns-4 : tie.Need-returns-4
+returns-4 : tie.Need-returns
 returns-4 c =
-    let n = c.before.before.before.args.n in
+    let n = c.args.n in
     sym (owner-past n (omega arith))
 
-pub owner-of-spec : {M : Type 1} → statement M
-owner-of-spec = tie.close (tie.spec (search rules) (search rules) (search rules) (search rules) (search rules)
+pub owner_of_spec : {M : Type 1} → statement M
+owner_of_spec = tie.close (tie.spec (search rules) (search rules) (search rules) (search rules) (search rules)
     (search rules) (search rules) (search rules) returns-2 (search rules) (search rules) (search rules) (search rules)
     (search rules) returns-3 returns-4)

@@ -9,25 +9,25 @@ use borrow.Author.Rules.{rules}
 use Rattle.ibft_layout.proofs.layout.string_of.Statement.{statement}
 use Rattle.ibft_layout.proofs.layout.string_of.Tie as tie
 
-returns : tie.Need-returns
-returns c = c.named-string.ensures
+returns : tie.Need-returns-then-n
+returns c = c.named_string.ensures
 
-returns-2 : tie.Need-returns-2
+returns-2 : tie.Need-returns-then-n-2
 returns-2 c =
-    let n = c.before.before.args.n in
+    let n = c.args.n in
     sym (ap string_shape (string-extra n (omega arith)) ∙ rw (le-ltb n named_entries (omega arith), lt-ltb n target_entries (omega arith)))
 
-returns-3 : tie.Need-returns-3
+returns-3 : tie.Need-returns-then-n-3
 returns-3 c =
-    let n = c.before.before.before.before.args.n in
-    c.target-string.ensures ∙ sym (ap string_shape (string-extra n (omega arith))
+    let n = c.args.n in
+    c.target_string.ensures ∙ sym (ap string_shape (string-extra n (omega arith))
     ∙ rw (le-ltb n named_entries (omega arith), le-ltb n target_entries (omega arith)))
 
-returns-4 : tie.Need-returns-4
+returns-4 : tie.Need-returns
 returns-4 c =
-    let n = c.before.before.before.args.n in
+    let n = c.args.n in
     sym (ap string_shape (string-past n (omega arith)))
 
-pub string-of-spec : {M : Type 1} → statement M
-string-of-spec = tie.close (tie.spec (search rules) (search rules) returns (search rules) returns-2 (search rules)
+pub string_of_spec : {M : Type 1} → statement M
+string_of_spec = tie.close (tie.spec (search rules) (search rules) returns (search rules) returns-2 (search rules)
     (search rules) (search rules) (search rules) returns-3 returns-4)

@@ -11,24 +11,14 @@ use Rattle.ibft_layout.proofs.layout.target_slot.Tie as tie
 row : (m n : ℕ) → n ≡ m → target_slot m ≡ target_slot n
 row m n e = ap target_slot (sym e)
 
-past : tie.Need-returns
+past : tie.Need-returns-then-n-ge-MOST_OF_A_KIND
 past c = sym (target_past _ (omega arith))
 
-rest : tie.Need-returns-9
+rest : tie.Need-returns-in_default
 unfolding target_slot
-rest c = last_arm target_slot 7 _ c.match.rest (λ h. absurd (omega arith))
+rest c = last_arm target_slot 7 _ c.in_default.in_default-own.rest (λ h. absurd (omega arith))
 
-pub target-slot-spec : {M : Type 1} → statement M
+pub target_slot_spec : {M : Type 1} → statement M
 unfolding target_slot
-target-slot-spec =
-    tie.close
-    (tie.spec
-    past
-    (λ c. row 1 _ c.match.keys1)
-    (λ c. row 2 _ c.match.keys2)
-    (λ c. row 3 _ c.match.keys3)
-    (λ c. row 4 _ c.match.keys4)
-    (λ c. row 5 _ c.match.keys5)
-    (λ c. row 6 _ c.match.keys6)
-    (λ c. row 7 _ c.match.keys7)
-    rest)
+target_slot_spec = tie.close (tie.spec past (λ c. row 1 _ c.in-1.is) (λ c. row 2 _ c.in-2.is) (λ c. row 3 _ c.in-3.is)
+    (λ c. row 4 _ c.in-4.is) (λ c. row 5 _ c.in-5.is) (λ c. row 6 _ c.in-6.is) (λ c. row 7 _ c.in-7.is) rest)

@@ -12,15 +12,9 @@ use Rattle.ibft_layout.proofs.layout.target_string.Tie as tie
 row : (m n : ℕ) → n ≡ m → string_shape (target_string m) ≡ string_shape (target_string n)
 row m n e = ap (λ (i : ℕ). string_shape (target_string i)) (sym e)
 
-rest : tie.Need-returns-5
-rest c = last_arm (λ (i : ℕ). string_shape (target_string i)) 4 _ c.match.rest (λ h. ap string_shape (get_or-eq_default target.string_fields _ h))
+rest : tie.Need-returns-in_default
+rest c = last_arm (λ (i : ℕ). string_shape (target_string i)) 4 _ c.in_default.in_default-own.rest (λ h. ap string_shape (get_or-eq_default target.string_fields _ h))
 
-pub target-string-spec : {M : Type 1} → statement M
-target-string-spec =
-    tie.close
-    (tie.spec
-    (λ c. row 1 _ c.match.keys1)
-    (λ c. row 2 _ c.match.keys2)
-    (λ c. row 3 _ c.match.keys3)
-    (λ c. row 4 _ c.match.keys4)
-    rest)
+pub target_string_spec : {M : Type 1} → statement M
+target_string_spec = tie.close (tie.spec (λ c. row 1 _ c.in-1.is) (λ c. row 2 _ c.in-2.is) (λ c. row 3 _ c.in-3.is)
+    (λ c. row 4 _ c.in-4.is) rest)

@@ -10,7 +10,7 @@ use Rattle.string_heap.proofs.tail.is_tail.Tie as tie
 
 returns : tie.Need-returns
 unfolding is_tail
-returns c = ap (λ (n : ℕ). eqb n (length c.before.before.before.args.a.now)) c.common-tail.ensures
+returns c = ap (λ (n : ℕ). eqb n (length c.args.a.now)) c.common_tail.ensures
 
-pub is-tail-spec : {M : Type 1} → statement M
-is-tail-spec = tie.close (tie.spec (search rules) returns)
+pub is_tail_spec : {M : Type 1} → statement M
+is_tail_spec = tie.close (tie.spec (search rules) returns)

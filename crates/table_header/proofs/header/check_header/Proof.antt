@@ -6,13 +6,13 @@ use borrow.Author.Rules.{rules}
 use Rattle.table_header.proofs.header.check_header.Statement.{statement}
 use Rattle.table_header.proofs.header.check_header.Tie as tie
 
-returns : tie.Need-returns
+returns : tie.Need-returns-in-Refused
 unfolding header_tests
-returns c = append-stop _ _ _ c.before.before.check-start.ensures _ c.enum_told.given.1
+returns c = append-stop _ _ _ c.check_start-v.ensures _ c.in-Refused.is
 
-returns-2 : tie.Need-returns-2
+returns-2 : tie.Need-returns
 unfolding header_tests
-returns-2 c = c.check-oem.ensures ∙ append-go _ _ _ c.before.before.before.check-start.ensures c.before.enum-told2.given.1
+returns-2 c = c.check_oem.ensures ∙ append-go _ _ _ c.check_start-v.ensures c.in_default.is
 
-pub check-header-spec : {M : Type 1} → statement M
-check-header-spec = tie.close (tie.spec (search rules) (search rules) returns (search rules) (search rules) returns-2)
+pub check_header_spec : {M : Type 1} → statement M
+check_header_spec = tie.close (tie.spec (search rules) (search rules) returns (search rules) (search rules) returns-2)

@@ -9,45 +9,37 @@ use borrow.Author.Rules.{rules}
 use Rattle.table_header.proofs.header.check_reserved.Statement.{statement}
 use Rattle.table_header.proofs.header.check_reserved.Tie as tie
 
-abbrev invariant-loop : tie.invariant-loop
+abbrev invariant-loop : tie.invariant-loop-i
 invariant-loop t start first count at i₀ i = (i ≤ count) × (first_of (reserved_tests t (at + i) (count - i)) ≡ first_of (reserved_tests t at count))
 
-abbrev decreases-loop : tie.decreases-loop
+abbrev decreases-loop : tie.decreases-loop-i
 decreases-loop t start first count at i₀ i = count - i
 
-loop-holds : tie.Need-loop-init invariant-loop decreases-loop
+loop-holds : tie.Need-loop-i-init invariant-loop decreases-loop
 loop-holds c = (search rules, simp unary_clauses)
 
-returns : tie.Need-returns invariant-loop decreases-loop
+returns : tie.Need-returns-then-byte_at-ne0 invariant-loop decreases-loop
 returns c =
-    let at-if1 = c.before in
-    let at-byte-at = at-if1.before in
-    let at-loop-test = at-byte-at.before in
-    let at-loop = at-loop-test.before in
-    let at-start = at-loop.before.before in
-    let a = at-start.args in
-    let l = at-loop.loop in
-    reserved-stop a.t.now (a.start + a.first) a.count l.i at-loop-test.loop-test.true
-    (λ z. at-if1.if1.true (at-byte-at.byte_at.ensures ∙ z)) _ c.refuse.ensures ∙ l.invariant.1
+    let a = c.args in
+    let l = c.loop-i in
+    reserved-stop a.t.now (a.start + a.first) a.count l.i c.loop-i-test.true
+    (λ z. c.if-byte_at-ne0.true (c.byte_at.ensures ∙ z)) _ c.refuse.ensures ∙ l.invariant.1
 
-loop-again : tie.Need-loop-preserved invariant-loop decreases-loop
+loop-again : tie.Need-loop-i-preserved invariant-loop decreases-loop
 loop-again c =
-    let at-byte-at = c.before in
-    let at-loop-test = at-byte-at.before in
-    let at-loop = at-loop-test.before in
-    let at-start = at-loop.before.before in
-    let a = at-start.args in
-    let l = at-loop.loop in (
+    let a = c.args in
+    let l = c.loop-i in (
       search rules,
-      reserved-go a.t.now (a.start + a.first) a.count l.i at-loop-test.loop-test.true
-          (sym at-byte-at.byte_at.ensures ∙ c.if1.false) ∙ l.invariant.1,
+      reserved-go a.t.now (a.start + a.first) a.count l.i c.loop-i-test.true
+          (sym c.byte_at.ensures ∙ c.if-byte_at-ne0.false) ∙ l.invariant.1,
     )
 
-returns-2 : tie.Need-returns-2 invariant-loop decreases-loop
+returns-2 : tie.Need-returns invariant-loop decreases-loop
 returns-2 c =
-    let a = c.before.before.before.args in
-    sym (reserved-end a.t.now (a.start + a.first) a.count c.before.loop.i c.loop-test.false) ∙ c.before.loop.invariant.1
+    let a = c.args in
+    sym (reserved-end a.t.now (a.start + a.first) a.count c.loop-i.i c.loop-i-test.false) ∙ c.loop-i.invariant.1
 
-pub check-reserved-spec : {M : Type 1} → statement M
-check-reserved-spec = tie.close (tie.spec invariant-loop decreases-loop (search rules) loop-holds (search rules) (search rules)
-    (search rules) (search rules) (search rules) returns (search rules) (search rules) loop-again returns-2)
+pub check_reserved_spec : {M : Type 1} → statement M
+check_reserved_spec = tie.close (tie.spec invariant-loop decreases-loop (search rules) loop-holds (search rules)
+    (search rules) (search rules) (search rules) (search rules) returns (search rules) (search rules) loop-again
+    returns-2)

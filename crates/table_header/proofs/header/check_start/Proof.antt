@@ -17,102 +17,82 @@ use Rattle.table_header.proofs.header.check_start.Statement.{statement}
 use Rattle.table_header.proofs.header.check_start.Tie as tie
 
 abbrev tests : tie.Start → List Test
-tests s = take 6 (header_tests s.args.signature s.args.least-lent s.args.least-length s.args.t.now)
+tests s = take 6 (header_tests s.args.signature s.args.least_lent s.args.least_length s.args.t.now)
 
-pass1 : (c : tie.Else1) → Passed (tests c.before.before) 1
+pass1 : (c : tie.Else-t-least_lent) → Passed (tests c.before.before) 1
 unfolding first_of header_tests
-pass1 c = rw (le-ltb (length c.before.before.args.t.now) c.before.before.args.least-lent (omega arith))
+pass1 c = rw (le-ltb (length c.args.t.now) c.args.least_lent (omega arith))
 
-pass2 : (c : tie.Else2) → Passed (tests c.before.before.before.before) 2
+pass2 : (c : tie.Else-u32_at-signature) → Passed (tests c.before.before.before.before) 2
 unfolding first_of header_tests
 pass2 c =
-    let at-start = c.before.before.before.before in
-    pass1 c.before.before ∙ rw (eq-eqb (word32 at-start.args.t.now 0) at-start.args.signature (omega arith))
+    pass1 c.before.before ∙ rw (eq-eqb (word32 c.args.t.now 0) c.args.signature (omega arith))
 
-pass3 : (c : tie.Else3) → Passed (tests c.before.before.before.before.before.before) 3
+pass3 : (c : tie.Else-length-least_length) → Passed (tests c.before.before.before.before.before.before) 3
 unfolding first_of header_tests
 pass3 c =
-    let at-start = c.before.before.before.before.before.before in
-    pass2 c.before.before ∙ rw (le-ltb (length_of at-start.args.t.now) at-start.args.least-length (omega arith))
+    pass2 c.before.before ∙ rw (le-ltb (length_of c.args.t.now) c.args.least_length (omega arith))
 
-pass4 : (c : tie.Else4) → Passed (tests c.before.before.before.before.before.before.before) 4
+pass4 : (c : tie.Else-t-length) → Passed (tests c.before.before.before.before.before.before.before) 4
 unfolding first_of header_tests
 pass4 c =
-    let at-start = c.before.before.before.before.before.before.before in
-    pass3 c.before ∙ rw (le-ltb (length at-start.args.t.now) (length_of at-start.args.t.now) (omega arith))
+    pass3 c.before ∙ rw (le-ltb (length c.args.t.now) (length_of c.args.t.now) (omega arith))
 
-pass5 : (c : tie.Else5) → Passed (tests c.before.before.before.before.before.before.before.before.before.before.before) 5
+pass5 : (c : tie.Else-right-stands) → Passed (tests c.before.before.before.before.before.before.before.before.before.before.before) 5
 unfolding first_of header_tests
 pass5 c =
-    let at-byte-at = c.before in
-    let at-checksum = at-byte-at.before in
-    let at_part = at-checksum.before in
-    let at-length-of = at_part.before.before.before in
-    let at-start = at-length-of.before.before.before.before.before in
-    let sealed = sum-stands at-start.args.t.now _ _ _ at_part.part.ensures.bytes
-    at-checksum.checksum.ensures _ at-byte-at.byte_at.ensures (search rules) in
-    pass4 at_part.before ∙ rw (← at-length-of.length-of.ensures, eq-eqb _ _ (sealed.0 c.if5.false))
+    let sealed = sum-stands c.args.t.now _ _ _ c.part-table.ensures.bytes
+    c.checksum-right.ensures _ c.byte_at-stands.ensures (search rules) in
+    pass4 c.before.before.before.before ∙ rw (← c.length_of-length.ensures, eq-eqb _ _ (sealed.0 c.if-right-stands.false))
 
-pass6 : (c : tie.Else6) → Passed (tests c.before.before.before.before.before.before.before.before.before.before.before.before.before) 6
+pass6 : (c : tie.Else-byte_at-ne-REVISION) → Passed (tests c.before.before.before.before.before.before.before.before.before.before.before.before.before) 6
 unfolding first_of header_tests
 pass6 c =
-    let at-start = c.before.before.before.before.before.before.before.before.before.before.before.before.before in
-    pass5 c.before.before ∙ rw (eq-eqb (byte at-start.args.t.now 8) 1 (omega arith))
+    pass5 c.before.before ∙ rw (eq-eqb (byte c.args.t.now 8) 1 (omega arith))
 
-returns : tie.Need-returns
+returns : tie.Need-returns-then-t-least_lent
 unfolding first_of header_tests
 returns c =
-    let at-start = c.before.before.before in
-    c.refuse.ensures ∙ sym (rw (lt-ltb (length at-start.args.t.now) at-start.args.least-lent (omega arith)))
+    c.refuse.ensures ∙ sym (rw (lt-ltb (length c.args.t.now) c.args.least_lent (omega arith)))
 
-returns-2 : tie.Need-returns-2
+returns-2 : tie.Need-returns-then-u32_at-signature
 unfolding first_of header_tests
 returns-2 c =
-    let at-start = c.before.before.before.before.before in
-    c.refuse2.ensures ∙ sym (pass1 c.before.before.before ∙ rw (ne_eqb (word32 at-start.args.t.now 0) at-start.args.signature (omega arith)))
+    c.refuse-then-u32_at-signature.ensures ∙ sym (pass1 c.before.before.before ∙ rw (ne_eqb (word32 c.args.t.now 0) c.args.signature (omega arith)))
 
-returns-3 : tie.Need-returns-3
+returns-3 : tie.Need-returns-then-length-least_length
 unfolding first_of header_tests
 returns-3 c =
-    let at-start = c.before.before.before.before.before.before.before in
-    c.refuse3.ensures ∙ sym (pass2 c.before.before.before ∙ rw (lt-ltb (length_of at-start.args.t.now) at-start.args.least-length (omega arith)))
+    c.refuse-then-length-least_length.ensures ∙ sym (pass2 c.before.before.before ∙ rw (lt-ltb (length_of c.args.t.now) c.args.least_length (omega arith)))
 
-returns-4 : tie.Need-returns-4
+returns-4 : tie.Need-returns-then-t-length
 unfolding first_of header_tests
 returns-4 c =
-    let at-start = c.before.before.before.before.before.before.before.before in
-    c.refuse4.ensures ∙ sym (pass3 c.before.before ∙ rw (lt-ltb (length at-start.args.t.now) (length_of at-start.args.t.now) (omega arith)))
+    c.refuse-then-t-length.ensures ∙ sym (pass3 c.before.before ∙ rw (lt-ltb (length c.args.t.now) (length_of c.args.t.now) (omega arith)))
 
-returns-5 : tie.Need-returns-5
+returns-5 : tie.Need-returns-then-right-stands
 unfolding first_of header_tests
 returns-5 c =
-    let at-if5 = c.before in
-    let at-byte-at = at-if5.before in
-    let at-checksum = at-byte-at.before in
-    let at_part = at-checksum.before in
-    let at-length-of = at_part.before.before.before in
-    let at-start = at-length-of.before.before.before.before.before in
-    let table = at-start.args.t.now in
-    let sealed = sum-stands table _ _ _ at_part.part.ensures.bytes at-checksum.checksum.ensures _ at-byte-at.byte_at.ensures (search rules) in
-    let right = sum_tells table _ _ _ at_part.part.ensures.bytes at-checksum.checksum.ensures in
-    c.refuse-with.ensures ∙ ap (λ (b : ℕ). Refused (refusal_with 6 9 b)) right
-    ∙ sym (pass4 at_part.before ∙ rw (
-      ← at-length-of.length-of.ensures,
-      ne_eqb _ _ (λ z. at-if5.if5.true (sealed.1 z)),
+    let table = c.args.t.now in
+    let sealed = sum-stands table _ _ _ c.part-table.ensures.bytes c.checksum-right.ensures _ c.byte_at-stands.ensures (search rules) in
+    let right = sum_tells table _ _ _ c.part-table.ensures.bytes c.checksum-right.ensures in
+    c.refuse_with.ensures ∙ ap (λ (b : ℕ). Refused (refusal_with 6 9 b)) right
+    ∙ sym (pass4 c.before.before.before.before.before ∙ rw (
+      ← c.length_of-length.ensures,
+      ne_eqb _ _ (λ z. c.if-right-stands.true (sealed.1 z)),
     ))
 
-returns-6 : tie.Need-returns-6
+returns-6 : tie.Need-returns-then-byte_at-ne-REVISION
 unfolding first_of header_tests
 returns-6 c =
-    let at-start = c.before.before.before.before.before.before.before.before.before.before.before.before.before.before in
-    c.refuse5.ensures ∙ sym (pass5 c.before.before.before ∙ rw (ne_eqb (byte at-start.args.t.now 8) 1 (omega arith)))
+    c.refuse-then-byte_at-ne-REVISION.ensures ∙ sym (pass5 c.before.before.before ∙ rw (ne_eqb (byte c.args.t.now 8) 1 (omega arith)))
 
-returns-7 : tie.Need-returns-7
+returns-7 : tie.Need-returns
 unfolding first_of header_tests
 returns-7 c = sym (pass6 c)
 
-pub check-start-spec : {M : Type 1} → statement M
-check-start-spec = tie.close (tie.spec (search rules) returns (search rules) (search rules) returns-2 (search rules)
+pub check_start_spec : {M : Type 1} → statement M
+check_start_spec = tie.close (tie.spec (search rules) returns (search rules) (search rules) returns-2 (search rules)
     (search rules) returns-3 (search rules) (search rules) returns-4 (search rules) (search rules) (search rules)
-    (search rules) (search rules) (search rules) (search rules) returns-5 (search rules) (search rules)
-    (search rules) returns-6 returns-7)
+    (search rules) (search rules) (search rules) (search rules) returns-5 (search rules) (search rules) (search rules)
+    returns-6 returns-7)

@@ -8,32 +8,25 @@ use borrow.Author.Rules.{rules}
 use Rattle.table_header.proofs.header.is_padded.Statement.{statement}
 use Rattle.table_header.proofs.header.is_padded.Tie as tie
 
-abbrev invariant-loop : tie.invariant-loop
+abbrev invariant-loop : tie.invariant-loop-i
 invariant-loop s i₀ i = padded (drop i s) ≡ padded s
 
-abbrev decreases-loop : tie.decreases-loop
+abbrev decreases-loop : tie.decreases-loop-i
 decreases-loop s i₀ i = length s - i
 
-returns : tie.Need-returns invariant-loop decreases-loop
+returns : tie.Need-returns-then-s-i-eq0 invariant-loop decreases-loop
 returns c =
-    let at-if1 = c.before in
-    let at-loop-test = at-if1.before.before in
-    let at-loop = at-loop-test.before in
-    let at-start = at-loop.before.before in
-    let l = at-loop.loop in
-    c.is-zero-from.ensures ∙ sym (padded-zero at-start.args.s.now l.i at-loop-test.loop-test.true at-if1.if1.true) ∙ l.invariant
+    let l = c.loop-i in
+    c.is_zero_from.ensures ∙ sym (padded-zero c.args.s.now l.i c.loop-i-test.true c.if-s-i-eq0.true) ∙ l.invariant
 
-loop-again : tie.Need-loop-preserved invariant-loop decreases-loop
+loop-again : tie.Need-loop-i-preserved invariant-loop decreases-loop
 loop-again c =
-    let at-loop-test = c.before.before in
-    let at-loop = at-loop-test.before in
-    let at-start = at-loop.before.before in
-    let l = at-loop.loop in
-    sym (padded-byte at-start.args.s.now l.i at-loop-test.loop-test.true c.if1.false) ∙ l.invariant
+    let l = c.loop-i in
+    sym (padded-byte c.args.s.now l.i c.loop-i-test.true c.if-s-i-eq0.false) ∙ l.invariant
 
-returns-2 : tie.Need-returns-2 invariant-loop decreases-loop
-returns-2 c = sym (padded-end c.before.before.before.args.s.now c.before.loop.i c.loop-test.false) ∙ c.before.loop.invariant
+returns-2 : tie.Need-returns invariant-loop decreases-loop
+returns-2 c = sym (padded-end c.args.s.now c.loop-i.i c.loop-i-test.false) ∙ c.loop-i.invariant
 
-pub is-padded-spec : {M : Type 1} → statement M
-is-padded-spec = tie.close (tie.spec invariant-loop decreases-loop (search rules) (search rules) (search rules) (search rules) returns
-    (search rules) (search rules) loop-again returns-2)
+pub is_padded_spec : {M : Type 1} → statement M
+is_padded_spec = tie.close (tie.spec invariant-loop decreases-loop (search rules) (search rules) (search rules)
+    (search rules) returns (search rules) (search rules) loop-again returns-2)

@@ -4,7 +4,7 @@ use Rattle.table_header.proofs.verdict.refuse.Statement.{statement}
 use Rattle.table_header.proofs.verdict.refuse.Tie as tie
 
 returns : tie.Need-returns
-returns c = c.refuse-with.ensures
+returns c = c.refuse_with.ensures
 
-pub refuse-spec : {M : Type 1} → statement M
-refuse-spec = tie.close (tie.spec (search rules) returns)
+pub refuse_spec : {M : Type 1} → statement M
+refuse_spec = tie.close (tie.spec (search rules) returns)

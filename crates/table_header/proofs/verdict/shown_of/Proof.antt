@@ -6,13 +6,13 @@ use borrow.Author.Rules.{rules}
 use Rattle.table_header.proofs.verdict.shown_of.Statement.{statement}
 use Rattle.table_header.proofs.verdict.shown_of.Tie as tie
 
-returns : tie.Need-returns
+returns : tie.Need-returns-in-Accepted
 unfolding shown
-returns c = (rw c.enum_told.given.1, λ e. refl)
+returns c = (rw c.in-Accepted.is, λ e. refl)
 
-returns-2 : tie.Need-returns-2
+returns-2 : tie.Need-returns-in-Refused
 unfolding shown
-returns-2 c = (rw c.before.enum-told2.given.1, λ e. accepted-not-refused e c.before.enum-told2.given.1)
+returns-2 c = (rw c.in-Refused.is, λ e. accepted-not-refused e c.in-Refused.is)
 
-pub shown-of-spec : {M : Type 1} → statement M
-shown-of-spec = tie.close (tie.spec (search rules) (search rules) (search rules) returns returns-2)
+pub shown_of_spec : {M : Type 1} → statement M
+shown_of_spec = tie.close (tie.spec (search rules) (search rules) (search rules) returns returns-2)

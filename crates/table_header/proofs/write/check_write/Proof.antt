@@ -19,35 +19,32 @@ use Rattle.table_header.proofs.write.check_write.Tie as tie
 abbrev tests : tie.Start → List Test
 tests s = write_tests (bytes_at s.args.image.now 10 6) (bytes_at s.args.image.now 16 8) s.args.size s.args.room
 
-oem : (c : tie.After-check-oem) → c.check-oem.result ≡ first_of (take 2 (tests c.before.before))
+oem : (c : tie.After-check_oem-v) → c.check_oem-v.result ≡ first_of (take 2 (tests c.before.before))
 unfolding write_tests
 oem c =
-    let image = c.before.before.args.image.now in
-    c.check-oem.ensures
+    let image = c.args.image.now in
+    c.check_oem-v.ensures
     ∙ ap₂ (λ (id table_id : Bool). first_of (refuse 8 10 (not id) ∷ refuse 8 16 (not table_id) ∷ [])) (padded-part image 10 6) (padded-part image 16 8)
 
-returns : tie.Need-returns
+returns : tie.Need-returns-in-Refused
 unfolding write_tests
-returns c = append-stop _ _ _ (oem c.before.before) _ c.enum_told.given.1
+returns c = append-stop _ _ _ (oem c.before) _ c.in-Refused.is
 
-returns-2 : tie.Need-returns-2
+returns-2 : tie.Need-returns-then-room-size
 unfolding write_tests
 returns-2 c =
-    let at-enum-told2 = c.before.before in
-    let at-start = at-enum-told2.before.before.before.before in
-    let a = at-start.args in
+    let a = c.args in
     c.refuse.ensures
     ∙ sym (fail-cons (refuse 21 0 (ltb a.room a.size)) [] (lt-ltb a.room a.size (omega arith)))
-    ∙ append-go _ _ _ (oem at-enum-told2.before.before) at-enum-told2.enum-told2.given.1
+    ∙ append-go _ _ _ (oem c.before.before.before) c.in_default.is
 
-returns-3 : tie.Need-returns-3
+returns-3 : tie.Need-returns
 unfolding write_tests
 returns-3 c =
-    let at-enum-told2 = c.before in
-    let at-start = at-enum-told2.before.before.before.before in
-    let a = at-start.args in
+    let a = c.args in
     sym (accept-cons (refuse 21 0 (ltb a.room a.size)) [] (le-ltb a.room a.size (omega arith)) accept-none)
-    ∙ append-go _ _ _ (oem at-enum-told2.before.before) at-enum-told2.enum-told2.given.1
+    ∙ append-go _ _ _ (oem c.before.before) c.in_default.is
 
-pub check-write-spec : {M : Type 1} → statement M
-check-write-spec = tie.close (tie.spec (search rules) (search rules) returns (search rules) (search rules) returns-2 returns-3)
+pub check_write_spec : {M : Type 1} → statement M
+check_write_spec = tie.close (tie.spec (search rules) (search rules) returns (search rules) (search rules) returns-2
+    returns-3)

@@ -6,12 +6,9 @@ use Rattle.table_header.proofs.write.put_checksum.Tie as tie
 
 returns : tie.Need-returns
 returns c =
-    let at-put-byte = c.before.before in
-    let at-checksum = at-put-byte.before.before in
-    let at_part = at-checksum.before in
-    let at-start = at_part.before.before.before in
-    let s = at-start.args in
-    checksum-put s.room.now _ _ s.size _ at_part.part.ensures.bytes at-checksum.checksum.ensures.checksum-is at-put-byte.put_byte.ensures
+    let s = c.args in
+    checksum-put s.room.now _ _ s.size _ c.part.ensures.bytes c.checksum-byte.ensures.checksum-is c.put_byte.ensures
 
-pub put-checksum-spec : {M : Type 1} → statement M
-put-checksum-spec = tie.close (tie.spec (search rules) (search rules) (search rules) (search rules) (search rules) (search rules) returns)
+pub put_checksum_spec : {M : Type 1} → statement M
+put_checksum_spec = tie.close (tie.spec (search rules) (search rules) (search rules) (search rules) (search rules)
+    (search rules) returns)

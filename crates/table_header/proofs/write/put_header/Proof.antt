@@ -6,21 +6,15 @@ use Rattle.table_header.proofs.write.put_header.Tie as tie
 
 returns : tie.Need-returns
 returns c =
-    let at-put-bytes3 = c.before.before in
-    let at-eight-at = at-put-bytes3.before.before.before in
-    let at-put-bytes2 = at-eight-at.before.before.before in
-    let at-six-at = at-put-bytes2.before.before.before in
-    let at-put-bytes = at-six-at.before.before.before in
-    let at-header-start = at-put-bytes.before.before.before in
     header-put _ _ _ _ _ _ _ _ _ _
-    at-header-start.header-start.ensures
-    at-put-bytes.put-bytes.ensures
-    at-six-at.six-at.ensures
-    at-put-bytes2.put-bytes2.ensures
-    at-eight-at.eight-at.ensures
-    at-put-bytes3.put-bytes3.ensures
+    c.header_start-start.ensures
+    c.put_bytes.ensures
+    c.six_at-oem_id.ensures
+    c.put_bytes-2.ensures
+    c.eight_at-oem_table_id.ensures
+    c.put_bytes-3.ensures
 
-pub put-header-spec : {M : Type 1} → statement M
-put-header-spec = tie.close (tie.spec (search rules) (search rules) (search rules) (search rules) (search rules)
-    (search rules) (search rules) (search rules) (search rules) (search rules) (search rules) (search rules) (search rules)
-    (search rules) returns)
+pub put_header_spec : {M : Type 1} → statement M
+put_header_spec = tie.close (tie.spec (search rules) (search rules) (search rules) (search rules) (search rules)
+    (search rules) (search rules) (search rules) (search rules) (search rules) (search rules) (search rules)
+    (search rules) (search rules) returns)

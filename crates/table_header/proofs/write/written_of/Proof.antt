@@ -6,13 +6,13 @@ use borrow.Author.Rules.{rules}
 use Rattle.table_header.proofs.write.written_of.Statement.{statement}
 use Rattle.table_header.proofs.write.written_of.Tie as tie
 
-returns : tie.Need-returns
+returns : tie.Need-returns-in-Accepted
 unfolding written_from refusal_of
-returns c = ap (written_from c.before.before.args.size) (sym c.enum_told.given.1)
+returns c = ap (written_from c.args.size) (sym c.in-Accepted.is)
 
-returns-2 : tie.Need-returns-2
+returns-2 : tie.Need-returns-in-Refused
 unfolding written_from
-returns-2 c = ap (written_from c.before.before.before.args.size) (sym c.before.verdict.given.1)
+returns-2 c = ap (written_from c.args.size) (sym c.in-Refused.is)
 
-pub written-of-spec : {M : Type 1} → statement M
-written-of-spec = tie.close (tie.spec (search rules) (search rules) returns returns-2)
+pub written_of_spec : {M : Type 1} → statement M
+written_of_spec = tie.close (tie.spec (search rules) (search rules) returns returns-2)

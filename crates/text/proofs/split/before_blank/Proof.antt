@@ -10,36 +10,31 @@ use Rattle.text.proofs.SplitLaws.{before-stop, before-next, before-end}
 use Rattle.text.proofs.split.before_blank.Statement.{statement}
 use Rattle.text.proofs.split.before_blank.Tie as tie
 
-abbrev invariant-loop : tie.invariant-loop
+abbrev invariant-loop : tie.invariant-loop-i
 invariant-loop s blank i₀ i = (i ≤ length s) × (i + before (blank_is blank) (drop i s) ≡ before (blank_is blank) s)
 
-abbrev decreases-loop : tie.decreases-loop
+abbrev decreases-loop : tie.decreases-loop-i
 decreases-loop s blank i₀ i = length s - i
 
-returns : tie.Need-returns invariant-loop decreases-loop
+returns : tie.Need-returns-then-blank_is invariant-loop decreases-loop
 returns c =
-    let at-blank-is = c.before in
-    let at-loop = at-blank-is.before.before.before in
-    let at-start = at-loop.before.before in
-    let a = at-start.args in
-    let i = at-loop.loop.i in
-    let here = sym at-blank-is.blank-is.ensures ∙ c.if1.true in
+    let a = c.args in
+    let i = c.loop-i.i in
+    let here = sym c.blank_is.ensures ∙ c.if-blank_is.true in
     omega (arith, before-stop (blank_is a.blank) a.s.now i (omega arith) here)
 
-loop-again : tie.Need-loop-preserved invariant-loop decreases-loop
+loop-again : tie.Need-loop-i-preserved invariant-loop decreases-loop
 loop-again c =
-    let at-blank-is = c.before in
-    let at-loop = at-blank-is.before.before.before in
-    let at-start = at-loop.before.before in
-    let a = at-start.args in
-    let i = at-loop.loop.i in
-    let here = sym at-blank-is.blank-is.ensures ∙ c.if1.false in
+    let a = c.args in
+    let i = c.loop-i.i in
+    let here = sym c.blank_is.ensures ∙ c.if-blank_is.false in
     omega (arith, before-next (blank_is a.blank) a.s.now i (omega arith) here)
 
-returns-2 : tie.Need-returns-2 invariant-loop decreases-loop
+returns-2 : tie.Need-returns invariant-loop decreases-loop
 returns-2 c =
-    let a = c.before.before.before.args in
-    omega (arith, before-end (blank_is a.blank) a.s.now c.before.loop.i (omega arith))
+    let a = c.args in
+    omega (arith, before-end (blank_is a.blank) a.s.now c.loop-i.i (omega arith))
 
-pub before-blank-spec : {M : Type 1} → statement M
-before-blank-spec = tie.close (tie.spec invariant-loop decreases-loop (search rules) (search rules) (search rules) returns (search rules) (search rules) loop-again returns-2)
+pub before_blank_spec : {M : Type 1} → statement M
+before_blank_spec = tie.close (tie.spec invariant-loop decreases-loop (search rules) (search rules) (search rules)
+    returns (search rules) (search rules) loop-again returns-2)

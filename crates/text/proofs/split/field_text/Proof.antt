@@ -4,7 +4,7 @@ use Rattle.text.proofs.split.field_text.Statement.{statement}
 use Rattle.text.proofs.split.field_text.Tie as tie
 
 returns : tie.Need-returns
-returns c = rw c.before.before-blank.ensures.0 at c.part.ensures
+returns c = rw c.before_blank.ensures.0 at c.part.ensures
 
-pub field-text-spec : {M : Type 1} → statement M
-field-text-spec = tie.close (tie.spec (search rules) (search rules) returns)
+pub field_text_spec : {M : Type 1} → statement M
+field_text_spec = tie.close (tie.spec (search rules) (search rules) returns)

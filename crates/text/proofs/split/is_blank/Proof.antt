@@ -8,5 +8,5 @@ returns : tie.Need-returns
 unfolding is_blank
 returns c = search rules
 
-pub is-blank-spec : {M : Type 1} → statement M
-is-blank-spec = tie.close (tie.spec returns)
+pub is_blank_spec : {M : Type 1} → statement M
+is_blank_spec = tie.close (tie.spec returns)

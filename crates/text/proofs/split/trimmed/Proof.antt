@@ -9,14 +9,12 @@ use Rattle.text.proofs.split.trimmed.Tie as tie
 
 returns : tie.Need-returns
 returns c =
-    let at-trimmed-size = c.before in
-    let at-before-blank = at-trimmed-size.before.before in
-    let at-start = at-before-blank.before.before in
-    let s = at-start.args.s.now in
-    let start = at-before-blank.before-blank in
-    let size : at-trimmed-size.trimmed-size.result ≡ length (trim s) = at-trimmed-size.trimmed-size.ensures
+    let s = c.args.s.now in
+    let start = c.before_blank-start in
+    let size : c.trimmed_size-size.result ≡ length (trim s) = c.trimmed_size-size.ensures
     ∙ trim-rest s start.result start.ensures.0 in
     rw (start.ensures.0, size) at c.part.ensures
 
-pub trimmed-spec : {M : Type 1} → statement M
-trimmed-spec = tie.close (tie.spec (search rules) (search rules) (search rules) (search rules) (search rules) (search rules) returns)
+pub trimmed_spec : {M : Type 1} → statement M
+trimmed_spec = tie.close (tie.spec (search rules) (search rules) (search rules) (search rules) (search rules)
+    (search rules) returns)

@@ -11,42 +11,36 @@ use Rattle.text.proofs.SplitLaws.{trim_end-less, trim_end-stop, trim_end-none}
 use Rattle.text.proofs.split.trimmed_size.Statement.{statement}
 use Rattle.text.proofs.split.trimmed_size.Tie as tie
 
-abbrev invariant-loop : tie.invariant-loop
+abbrev invariant-loop : tie.invariant-loop-n
 invariant-loop s n₀ n = (n ≤ length s) × (trim_end (take n s) ≡ trim_end s)
 
-abbrev decreases-loop : tie.decreases-loop
+abbrev decreases-loop : tie.decreases-loop-n
 decreases-loop s n₀ n = n
 
-loop-holds : tie.Need-loop-init invariant-loop decreases-loop
+loop-holds : tie.Need-loop-n-init invariant-loop decreases-loop
 loop-holds c = (search rules, ap trim_end (take-length _))
 
-returns : tie.Need-returns invariant-loop decreases-loop
+returns : tie.Need-returns-then-not-is_blank invariant-loop decreases-loop
 returns c =
-    let at-is-blank = c.before in
-    let at-loop = at-is-blank.before.before.before in
-    let at-start = at-loop.before.before in
-    let l = at-loop.loop in
-    let s = at-start.args.s.now in
-    let here = sym at-is-blank.is-blank.ensures ∙ not-true _ c.if1.true in
+    let l = c.loop-n in
+    let s = c.args.s.now in
+    let here = sym c.is_blank.ensures ∙ c.if-not-is_blank.true in
     sym (trim_end-stop s l.n (omega arith) (omega arith) here) ∙ ap length l.invariant.1
 
-loop-again : tie.Need-loop-preserved invariant-loop decreases-loop
+loop-again : tie.Need-loop-n-preserved invariant-loop decreases-loop
 loop-again c =
-    let at-is-blank = c.before in
-    let at-loop = at-is-blank.before.before.before in
-    let at-start = at-loop.before.before in
-    let l = at-loop.loop in
-    let s = at-start.args.s.now in
-    let here = sym at-is-blank.is-blank.ensures ∙ not-false _ c.if1.false in
+    let l = c.loop-n in
+    let s = c.args.s.now in
+    let here = sym c.is_blank.ensures ∙ c.if-not-is_blank.false in
     (search rules, sym (trim_end-less s l.n (omega arith) (omega arith) here) ∙ l.invariant.1)
 
-returns-2 : tie.Need-returns-2 invariant-loop decreases-loop
+returns-2 : tie.Need-returns invariant-loop decreases-loop
 returns-2 c =
-    let l = c.before.loop in
-    let s = c.before.before.before.args.s.now in
+    let l = c.loop-n in
+    let s = c.args.s.now in
     let z : l.n ≡ 0 = omega arith in
     sym (trim_end-none s) ∙ ap length (rw z at l.invariant.1)
 
-pub trimmed-size-spec : {M : Type 1} → statement M
-trimmed-size-spec = tie.close (tie.spec invariant-loop decreases-loop loop-holds (search rules) (search rules) (search rules) returns
-    (search rules) (search rules) loop-again returns-2)
+pub trimmed_size_spec : {M : Type 1} → statement M
+trimmed_size_spec = tie.close (tie.spec invariant-loop decreases-loop loop-holds (search rules) (search rules)
+    (search rules) returns (search rules) (search rules) loop-again returns-2)

@@ -9,10 +9,8 @@ use Rattle.text.proofs.split.value_of.Tie as tie
 
 returns : tie.Need-returns
 returns c =
-    let at-before-blank = c.before.before in
-    let at-start = at-before-blank.before.before in
-    let line = at-start.args.line.now in
-    let size = at-before-blank.before-blank in
+    let line = c.args.line.now in
+    let size = c.before_blank-size in
     let shown = c.trimmed.ensures.shows (before-le _ _) in
     let bytes = shown.bytes ∙ trim-part _ ∙ value-rest line size.result size.ensures.0 ∙ sym (value-part line) in
     record {
@@ -20,5 +18,5 @@ returns c =
       shows = λ h. record { bytes = bytes; block = shown.block; place = omega (arith, shown.place, value-place line size.result size.ensures.0) };
     }
 
-pub value-of-spec : {M : Type 1} → statement M
-value-of-spec = tie.close (tie.spec (search rules) (search rules) (search rules) (search rules) (search rules) returns)
+pub value_of_spec : {M : Type 1} → statement M
+value_of_spec = tie.close (tie.spec (search rules) (search rules) (search rules) (search rules) (search rules) returns)

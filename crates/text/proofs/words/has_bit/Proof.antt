@@ -10,5 +10,5 @@ use Rattle.text.proofs.words.has_bit.Tie as tie
 returns : tie.Need-returns
 returns c = ap (λ (x : ℕ). eqb x 1) (and_mask (c.args.v / 2 ^ c.args.k) 1)
 
-pub has-bit-spec : {M : Type 1} → statement M
-has-bit-spec = tie.close (tie.spec (search rules) (search rules) returns)
+pub has_bit_spec : {M : Type 1} → statement M
+has_bit_spec = tie.close (tie.spec (search rules) (search rules) returns)

@@ -4,20 +4,14 @@ use Rattle.octets.specs.Counting.{tabulate}
 use Rattle.text.proofs.words.put_end.Statement.{statement}
 use Rattle.text.proofs.words.put_end.Tie as tie
 
-returns : tie.Need-returns
+returns : tie.Need-returns-then-first
 unfolding tabulate
 returns c =
-    let at-put-text = c.before.before in
-    let at-if1 = at-put-text.before.before.before in
-    rw at-if1.if1.true at-put-text.put-text.ensures
+    rw c.if-first.true c.put_text.ensures
 
-returns-2 : tie.Need-returns-2
+returns-2 : tie.Need-returns
 returns-2 c =
-    let at-put-text2 = c.before.before in
-    let at-if1 = at-put-text2.before.before.before in
-    rw at-if1.if1.false at-put-text2.put-text2.ensures
+    rw c.if-first.false c.put_text-2.ensures
 
-pub put-end-spec : {M : Type 1} → statement M
-put-end-spec =
-    tie.close
-    (tie.spec (search rules) (search rules) (search rules) returns (search rules) (search rules) (search rules) returns-2)
+pub put_end_spec : {M : Type 1} → statement M
+put_end_spec = tie.close (tie.spec (search rules) (search rules) returns (search rules) (search rules) returns-2)

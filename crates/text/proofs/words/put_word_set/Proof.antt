@@ -8,7 +8,7 @@ use Rattle.text.proofs.words.put_word_set.Tie as tie
 
 returns : tie.Need-returns
 unfolding word_set_text
-returns c = puts-same c.before.before.put-words.ensures (listed-text _)
+returns c = puts-same c.put_words.ensures (listed-text _)
 
-pub put-word-set-spec : {M : Type 1} → statement M
-put-word-set-spec = tie.close (tie.spec (search rules) (search rules) returns)
+pub put_word_set_spec : {M : Type 1} → statement M
+put_word_set_spec = tie.close (tie.spec (search rules) (search rules) returns)

@@ -13,27 +13,24 @@ use Rattle.text.proofs.words.read_word_set.Statement.{statement}
 use Rattle.text.proofs.words.read_word_set.Tie as tie
 
 -- what is compared
-compared : (c : tie.After-same) → same (trim c.before.before.before.before.before.args.s.now) no_word ≡ c.same.result
+compared : (c : tie.After-same) → same (trim c.args.s.now) no_word ≡ c.same.result
 unfolding tabulate
 compared c =
-    let at-trimmed = c.before.before in
-    let at-start = at-trimmed.before.before.before in
-    let s = at-start.args.s.now in
-    let line = at-trimmed.trimmed.ensures.bytes ∙ trim-part s in
+    let s = c.args.s.now in
+    let line = c.trimmed.ensures.bytes ∙ trim-part s in
     ap (λ (l : List ℕ). same l no_word) (sym line) ∙ sym c.same.ensures
 
-returns : tie.Need-returns
-returns c = set-none _ _ (compared c.before ∙ c.if1.true)
+returns : tie.Need-returns-then-same
+returns c = set-none _ _ (compared c.before ∙ c.if-same.true)
 
-returns-2 : tie.Need-returns-2
-returns-2 c = set-no-words _ _ (compared c.before.before.before ∙ c.before.before.if1.false) (omega arith)
+returns-2 : tie.Need-returns-then-before_blank-s
+returns-2 c = set-no-words _ _ (compared c.before.before.before ∙ c.if-same.false) (omega arith)
 
-returns-3 : tie.Need-returns-3
+returns-3 : tie.Need-returns
 returns-3 c =
-    let at-if1 = c.before.before.before in
     c.add_words.ensures
-    ∙ set_words _ _ (compared at-if1.before ∙ at-if1.if1.false) (omega arith)
+    ∙ set_words _ _ (compared c.before.before.before.before ∙ c.if-same.false) (omega arith)
 
-pub read-word-set-spec : {M : Type 1} → statement M
-read-word-set-spec =
-    tie.close (tie.spec (search rules) (search rules) (search rules) returns (search rules) returns-2 (search rules) returns-3)
+pub read_word_set_spec : {M : Type 1} → statement M
+read_word_set_spec = tie.close (tie.spec (search rules) (search rules) returns (search rules) returns-2 (search rules)
+    returns-3)

@@ -8,19 +8,12 @@ use Rattle.ibft_layout.proofs.LayoutLaws.{last_arm, field_row, field_past}
 use Rattle.ibft_layout.proofs.initiator.Initiator.field.Statement.{statement}
 use Rattle.ibft_layout.proofs.initiator.Initiator.field.Tie as tie
 
-rest : tie.Need-returns-6
+rest : tie.Need-returns-in_default
 unfolding kind_field
-rest c = last_arm (λ (n : ℕ). field_shape (kind_field initiator n)) 5 _ c.match.rest (λ h. field_past initiator _ h)
+rest c = last_arm (λ (n : ℕ). field_shape (kind_field initiator n)) 5 _ c.in_default.in_default-own.rest (λ h. field_past initiator _ h)
 
-pub field-spec : {M : Type 1} → statement M
+pub field_spec : {M : Type 1} → statement M
 unfolding kind_field
-field-spec =
-    tie.close
-    (tie.spec
-    (search rules)
-    (λ c. field_row initiator 1 _ _ refl c.match.keys1)
-    (λ c. field_row initiator 2 _ _ refl c.match.keys2)
-    (λ c. field_row initiator 3 _ _ refl c.match.keys3)
-    (λ c. field_row initiator 4 _ _ refl c.match.keys4)
-    (λ c. field_row initiator 5 _ _ c.words_of.ensures c.before.match.keys5)
-    rest)
+field_spec = tie.close (tie.spec (search rules) (λ c. field_row initiator 1 _ _ refl c.in-1.is)
+    (λ c. field_row initiator 2 _ _ refl c.in-2.is) (λ c. field_row initiator 3 _ _ refl c.in-3.is)
+    (λ c. field_row initiator 4 _ _ refl c.in-4.is) (λ c. field_row initiator 5 _ _ c.words_of.ensures c.in-5.is) rest)

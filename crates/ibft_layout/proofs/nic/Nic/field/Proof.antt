@@ -8,25 +8,15 @@ use Rattle.ibft_layout.proofs.LayoutLaws.{last_arm, field_row, field_past}
 use Rattle.ibft_layout.proofs.nic.Nic.field.Statement.{statement}
 use Rattle.ibft_layout.proofs.nic.Nic.field.Tie as tie
 
-rest : tie.Need-returns-12
+rest : tie.Need-returns-in_default
 unfolding kind_field
-rest c = last_arm (λ (n : ℕ). field_shape (kind_field nic n)) 11 _ c.match.rest (λ h. field_past nic _ h)
+rest c = last_arm (λ (n : ℕ). field_shape (kind_field nic n)) 11 _ c.in_default.in_default-own.rest (λ h. field_past nic _ h)
 
-pub field-spec : {M : Type 1} → statement M
+pub field_spec : {M : Type 1} → statement M
 unfolding kind_field
-field-spec =
-    tie.close
-    (tie.spec
-    (search rules)
-    (λ c. field_row nic 1 _ _ refl c.match.keys1)
-    (λ c. field_row nic 2 _ _ refl c.match.keys2)
-    (λ c. field_row nic 3 _ _ refl c.match.keys3)
-    (λ c. field_row nic 4 _ _ refl c.match.keys4)
-    (λ c. field_row nic 5 _ _ refl c.match.keys5)
-    (λ c. field_row nic 6 _ _ refl c.match.keys6)
-    (λ c. field_row nic 7 _ _ refl c.match.keys7)
-    (λ c. field_row nic 8 _ _ refl c.match.keys8)
-    (λ c. field_row nic 9 _ _ refl c.match.keys9)
-    (λ c. field_row nic 10 _ _ refl c.match.keys10)
-    (λ c. field_row nic 11 _ _ c.words_of.ensures c.before.match.keys11)
-    rest)
+field_spec = tie.close (tie.spec (search rules) (λ c. field_row nic 1 _ _ refl c.in-1.is)
+    (λ c. field_row nic 2 _ _ refl c.in-2.is) (λ c. field_row nic 3 _ _ refl c.in-3.is)
+    (λ c. field_row nic 4 _ _ refl c.in-4.is) (λ c. field_row nic 5 _ _ refl c.in-5.is)
+    (λ c. field_row nic 6 _ _ refl c.in-6.is) (λ c. field_row nic 7 _ _ refl c.in-7.is)
+    (λ c. field_row nic 8 _ _ refl c.in-8.is) (λ c. field_row nic 9 _ _ refl c.in-9.is)
+    (λ c. field_row nic 10 _ _ refl c.in-10.is) (λ c. field_row nic 11 _ _ c.words_of.ensures c.in-11.is) rest)

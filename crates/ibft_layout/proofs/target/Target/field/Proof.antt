@@ -8,24 +8,17 @@ use Rattle.ibft_layout.proofs.LayoutLaws.{last_arm, field_row, field_past}
 use Rattle.ibft_layout.proofs.target.Target.field.Statement.{statement}
 use Rattle.ibft_layout.proofs.target.Target.field.Tie as tie
 
-rest : tie.Need-returns-11
+rest : tie.Need-returns-in_default
 unfolding kind_field
-rest c = last_arm (λ (n : ℕ). field_shape (kind_field target n)) 10 _ c.match.rest (λ h. field_past target _ h)
+rest c = last_arm (λ (n : ℕ). field_shape (kind_field target n)) 10 _ c.in_default.in_default-own.rest (λ h. field_past target _ h)
 
-pub field-spec : {M : Type 1} → statement M
+pub field_spec : {M : Type 1} → statement M
 unfolding kind_field
-field-spec =
-    tie.close
-    (tie.spec
-    (search rules) (search rules) (search rules) (search rules) (search rules)
-    (λ c. field_row target 1 _ _ refl c.match.keys1)
-    (λ c. field_row target 2 _ _ refl c.match.keys2)
-    (λ c. field_row target 3 _ _ refl c.match.keys3)
-    (λ c. field_row target 4 _ _ refl c.match.keys4)
-    (λ c. field_row target 5 _ _ refl c.match.keys5)
-    (λ c. field_row target 6 _ _ c.words_of.ensures c.before.match.keys6)
-    (λ c. field_row target 7 _ _ c.words-of2.ensures c.before.match.keys7)
-    (λ c. field_row target 8 _ _ c.words-of3.ensures c.before.match.keys8)
-    (λ c. field_row target 9 _ _ c.words-of4.ensures c.before.match.keys9)
-    (λ c. field_row target 10 _ _ c.words-of5.ensures c.before.match.keys10)
-    rest)
+field_spec = tie.close (tie.spec (search rules) (search rules) (search rules) (search rules) (search rules)
+    (λ c. field_row target 1 _ _ refl c.in-1.is) (λ c. field_row target 2 _ _ refl c.in-2.is)
+    (λ c. field_row target 3 _ _ refl c.in-3.is) (λ c. field_row target 4 _ _ refl c.in-4.is)
+    (λ c. field_row target 5 _ _ refl c.in-5.is) (λ c. field_row target 6 _ _ c.words_of.ensures c.in-6.is)
+    (λ c. field_row target 7 _ _ c.words_of-in-7.ensures c.in-7.is)
+    (λ c. field_row target 8 _ _ c.words_of-in-8.ensures c.in-8.is)
+    (λ c. field_row target 9 _ _ c.words_of-in-9.ensures c.in-9.is)
+    (λ c. field_row target 10 _ _ c.words_of-in-10.ensures c.in-10.is) rest)
