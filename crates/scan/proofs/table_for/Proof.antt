@@ -15,12 +15,10 @@ returns c =
     shows_nothing a.f a.mem _ a.address scanned.result scanned.ensures.answer-is c.if-found-ne0.true
     (c.part.ensures.bytes ∙ part_none a.mem.now 0)
 
-sub_part : tie.Need-overflow-sub-part
+sub_part : tie.Need-overflow_sub-found
 sub_part c =
-    let at-scan-for = c.before.before.before in
-    let at-start = at-scan-for.before.before in
-    let a = at-start.args in
-    let scanned = at-scan-for.scan-for in
+    let a = c.args in
+    let scanned = c.scan_for-found in
     (found_within a.f a.mem.now a.address scanned.result scanned.ensures (omega arith)).1
 
 returns-2 : tie.Need-returns
@@ -32,5 +30,5 @@ returns-2 c =
     (c.part-2.ensures.shows (omega arith))
 
 pub table_for_spec : {M : Type 1} → statement M
-table_for_spec = tie.close (tie.spec (search rules) (search rules) returns (search rules) (search rules)
-    (search rules) returns-2)
+table_for_spec = tie.close (tie.spec (search rules) (search rules) returns sub_part (search rules) (search rules)
+    returns-2)

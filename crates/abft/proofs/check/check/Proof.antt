@@ -10,31 +10,28 @@ use borrow.Author.Rules.{rules}
 use Rattle.abft.proofs.check.check.Statement.{statement}
 use Rattle.abft.proofs.check.check.Tie as tie
 
-header-passed : (c : tie.After-enum-told2)
-    → first_of (reserved_tests c.before.before.before.before.args.t.now 24 12
-    ++ reserved_tests c.before.before.before.before.args.t.now 39 1)
-    ≡ check_of c.before.before.before.before.args.t.now
+header-passed : (c : tie.In_default)
+    → first_of (reserved_tests c.args.t.now 24 12
+    ++ reserved_tests c.args.t.now 39 1)
+    ≡ check_of c.args.t.now
 unfolding check_of check_tests
-header-passed c = append-go _ _ _ c.before.before.check-header.ensures c.enum-told2.given.1
+header-passed c = append-go _ _ _ c.check_header-v.ensures c.in_default.is
 
-returns : tie.Need-returns
+returns : tie.Need-returns-in-Refused
 unfolding check_of check_tests
-returns c = check-promise _ _ (append-stop _ _ _ c.before.before.check-header.ensures _ c.enum_told.given.1)
+returns c = check-promise _ _ (append-stop _ _ _ c.check_header-v.ensures _ c.in-Refused.is)
 
-returns-2 : tie.Need-returns-2
-returns-2 c = check-promise _ _ (append-stop _ _ _ c.before.before.check-reserved.ensures _ c.enum-told3.given.1
-    ∙ header-passed c.before.before.before)
+returns-2 : tie.Need-returns-in-Refused-v
+returns-2 c = check-promise _ _ (append-stop _ _ _ c.check_reserved-v.ensures _ c.in-Refused-v.is
+    ∙ header-passed c.before.before)
 
-returns-3 : tie.Need-returns-3
+returns-3 : tie.Need-returns
 returns-3 c =
-    let at-enum-told4 = c.before in
-    let at-check-reserved = at-enum-told4.before.before in
-    let at-start = at-check-reserved.before.before.before.before.before in
-    let a = at-start.args in
-    let last : c.check-reserved2.result ≡ first_of (reserved_tests a.t.now 39 1) = c.check-reserved2.ensures in
-    check-promise _ _ (last ∙ append-go _ _ _ at-check-reserved.check-reserved.ensures
-    at-enum-told4.enum-told4.given.1 ∙ header-passed at-check-reserved.before)
+    let a = c.args in
+    let last : c.check_reserved.result ≡ first_of (reserved_tests a.t.now 39 1) = c.check_reserved.ensures in
+    check-promise _ _ (last ∙ append-go _ _ _ c.check_reserved-v.ensures
+    c.in_default-v.is ∙ header-passed c.before.before.before)
 
-pub check-spec : {M : Type 1} → statement M
-check-spec = tie.close (tie.spec (search rules) (search rules) (search rules) returns (search rules) (search rules)
+pub check_spec : {M : Type 1} → statement M
+check_spec = tie.close (tie.spec (search rules) (search rules) (search rules) returns (search rules) (search rules)
     (search rules) returns-2 (search rules) (search rules) returns-3)

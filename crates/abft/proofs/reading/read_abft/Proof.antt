@@ -7,10 +7,7 @@ use Rattle.abft.proofs.reading.read_abft.Tie as tie
 returns : tie.Need-returns
 unfolding abft_of
 returns c =
-    let at-shown-of = c.before in
-    let at-refusal-of = at-shown-of.before in
-    let at-check = at-refusal-of.before in
-    rw (c.read.ensures, at-shown-of.Shown-of.ensures.0, at-refusal-of.refusal-of.ensures, at-check.check.ensures.verdict-is)
+    rw (c.read.ensures, c.shown_of.ensures.0, c.refusal_of.ensures, c.check-verdict.ensures.verdict-is)
 
-pub read-abft-spec : {M : Type 1} → statement M
-read-abft-spec = tie.close (tie.spec (search rules) (search rules) (search rules) (search rules) returns)
+pub read_abft_spec : {M : Type 1} → statement M
+read_abft_spec = tie.close (tie.spec (search rules) (search rules) (search rules) (search rules) returns)

@@ -6,14 +6,11 @@ use Rattle.abft.proofs.write.put_table.Tie as tie
 
 returns : tie.Need-returns
 returns c =
-    let at-put-checksum = c.before.before in
-    let at-put-fields = at-put-checksum.before.before.before.before in
-    let at-put-header = at-put-fields.before.before.before.before in
-    let at-start = at-put-header.before.before.before.before in
-    table-put _ _ _ _ _ at-start.requires
-    at-put-header.put-header.ensures
-    at-put-fields.put-fields.ensures
-    at-put-checksum.put-checksum.ensures
+    table-put _ _ _ _ _ c.requires
+    c.put_header.ensures
+    c.put_fields.ensures
+    c.put_checksum.ensures
 
-pub put-table-spec : {M : Type 1} → statement M
-put-table-spec = tie.close (tie.spec (search rules) (search rules) (search rules) (search rules) (search rules) returns)
+pub put_table_spec : {M : Type 1} → statement M
+put_table_spec = tie.close (tie.spec (search rules) (search rules) (search rules) (search rules) (search rules)
+    returns)

@@ -6,7 +6,8 @@ use Rattle.abft.proofs.write.shelf_and_slot.Tie as tie
 
 returns : tie.Need-returns
 unfolding bytes_past
-returns c = rw (c.byte-at3.ensures, c.before.byte-at2.ensures, c.before.before.byte_at.ensures)
+returns c = rw (c.byte_at-3.ensures, c.byte_at-2.ensures, c.byte_at.ensures)
 
-pub shelf-and-slot-spec : {M : Type 1} → statement M
-shelf-and-slot-spec = tie.close (tie.spec (search rules) (search rules) (search rules) (search rules) (search rules) (search rules) (search rules) returns)
+pub shelf_and_slot_spec : {M : Type 1} → statement M
+shelf_and_slot_spec = tie.close (tie.spec (search rules) (search rules) (search rules) (search rules) (search rules)
+    (search rules) (search rules) returns)

@@ -7,34 +7,25 @@ use borrow.Author.Rules.{rules}
 use Rattle.abft.proofs.write.write.Statement.{statement}
 use Rattle.abft.proofs.write.write.Tie as tie
 
-returns : tie.Need-returns
+returns : tie.Need-returns-in-Refused
 unfolding write_verdict
 returns c =
-    let at-enum-told = c.before in
-    let at-check-write = at-enum-told.before.before in
-    let at-start = at-check-write.before.before.before in
-    let a = at-start.args in
-    promise-refused a.image.now a.room.now _ at-check-write.check-write.ensures _ _ at-enum-told.enum_told.given.1 c.written_of_lem.ensures
+    let a = c.args in
+    promise-refused a.image.now a.room.now _ c.check_write-verdict.ensures _ _ c.in-Refused.is c.written_of.ensures
 
-put-table-requires : tie.Need-put-table-requires
+put-table-requires : tie.Need-put_table-requires
 unfolding write_verdict
 put-table-requires c κs =
-    let at-enum-told2 = c.before in
-    let at-check-write = at-enum-told2.before.before in
-    let at-start = at-check-write.before.before.before in
-    let a = at-start.args in
-    fits a.image.now a.room.now _ at-check-write.check-write.ensures at-enum-told2.enum-told2.given.1
+    let a = c.args in
+    fits a.image.now a.room.now _ c.check_write-verdict.ensures c.in_default.is
 
-returns-2 : tie.Need-returns-2
+returns-2 : tie.Need-returns
 unfolding write_verdict
 returns-2 c =
-    let at-put-table = c.before.before.before in
-    let at-enum-told2 = at-put-table.before.before in
-    let at-check-write = at-enum-told2.before.before in
-    let at-start = at-check-write.before.before.before in
-    let a = at-start.args in
-    promise-accepted a.image.now a.room.now _ at-check-write.check-write.ensures _ _
-    at-enum-told2.enum-told2.given.1 c.written-of2.ensures at-put-table.put-table.ensures
+    let a = c.args in
+    promise-accepted a.image.now a.room.now _ c.check_write-verdict.ensures _ _
+    c.in_default.is c.written_of-2.ensures c.put_table.ensures
 
 pub write_spec : {M : Type 1} → statement M
-write_spec = tie.close (tie.spec (search rules) (search rules) (search rules) returns (search rules) put-table-requires (search rules) (search rules) returns-2)
+write_spec = tie.close (tie.spec (search rules) (search rules) (search rules) returns (search rules)
+    put-table-requires (search rules) (search rules) returns-2)

@@ -25,41 +25,42 @@ abbrev from-reserved : List ℕ → List Test
 from-reserved t = reserved_tests t 24 12 ++ from_last t
 
 -- the table, from behind each group that has passed
-abbrev table1 : tie.After-enum-told2 → List ℕ
-table1 c = c.before.before.before.before.before.args.t.now
+abbrev table1 : tie.In_default → List ℕ
+table1 c = c.args.t.now
 
-abbrev table2 : tie.After-enum-told4 → List ℕ
-table2 c = table1 c.before.before.before
+abbrev table2 : tie.In_default-v → List ℕ
+table2 c = table1 c.before.before
 
-abbrev table3 : tie.After-enum-told6 → List ℕ
-table3 c = table2 c.before.before.before
+abbrev table3 : tie.In_default-v-2 → List ℕ
+table3 c = table2 c.before.before
 
-header-passed : (c : tie.After-enum-told2) → first_of (from-reserved (table1 c)) ≡ check_of (table1 c)
+header-passed : (c : tie.In_default) → first_of (from-reserved (table1 c)) ≡ check_of (table1 c)
 unfolding check_of check_tests
-header-passed c = append-go _ _ _ c.before.before.check-header.ensures c.enum-told2.given.1
+header-passed c = append-go _ _ _ c.check_header-v.ensures c.in_default.is
 
-reserved-passed : (c : tie.After-enum-told4) → first_of (from_last (table2 c)) ≡ check_of (table2 c)
-reserved-passed c = append-go _ _ _ c.before.before.check-reserved.ensures c.enum-told4.given.1 ∙ header-passed c.before.before.before
+reserved-passed : (c : tie.In_default-v) → first_of (from_last (table2 c)) ≡ check_of (table2 c)
+reserved-passed c = append-go _ _ _ c.check_reserved-v.ensures c.in_default-v.is ∙ header-passed c.before.before
 
-last-passed : (c : tie.After-enum-told6) → first_of (from_parts (table3 c)) ≡ check_of (table3 c)
-last-passed c = append-go _ _ _ c.before.before.check-reserved2.ensures c.enum-told6.given.1 ∙ reserved-passed c.before.before.before
+last-passed : (c : tie.In_default-v-2) → first_of (from_parts (table3 c)) ≡ check_of (table3 c)
+last-passed c = append-go _ _ _ c.check_reserved-v-2.ensures c.in_default-v-2.is ∙ reserved-passed c.before.before
 
 -- the promise, of a verdict that is the definition's
-returns : tie.Need-returns
+returns : tie.Need-returns-in-Refused
 unfolding check_of check_tests
-returns c = check-promise _ _ (append-stop _ _ _ c.before.before.check-header.ensures _ c.enum_told.given.1)
+returns c = check-promise _ _ (append-stop _ _ _ c.check_header-v.ensures _ c.in-Refused.is)
 
-returns-2 : tie.Need-returns-2
-returns-2 c = check-promise _ _ (append-stop _ _ _ c.before.before.check-reserved.ensures _ c.enum-told3.given.1
-    ∙ header-passed c.before.before.before)
+returns-2 : tie.Need-returns-in-Refused-v
+returns-2 c = check-promise _ _ (append-stop _ _ _ c.check_reserved-v.ensures _ c.in-Refused-v.is
+    ∙ header-passed c.before.before)
 
-returns-3 : tie.Need-returns-3
-returns-3 c = check-promise _ _ (append-stop _ _ _ c.before.before.check-reserved2.ensures _ c.enum-told5.given.1
-    ∙ reserved-passed c.before.before.before)
+returns-3 : tie.Need-returns-in-Refused-v-2
+returns-3 c = check-promise _ _ (append-stop _ _ _ c.check_reserved-v-2.ensures _ c.in-Refused-v-2.is
+    ∙ reserved-passed c.before.before)
 
-returns-4 : tie.Need-returns-4
-returns-4 c = check-promise _ _ (c.check-parts.ensures ∙ last-passed c.before)
+returns-4 : tie.Need-returns
+returns-4 c = check-promise _ _ (c.check_parts.ensures ∙ last-passed c.before)
 
-pub check-spec : {M : Type 1} → statement M
-check-spec = tie.close (tie.spec (search rules) (search rules) (search rules) returns (search rules) (search rules)
-    (search rules) returns-2 (search rules) (search rules) (search rules) returns-3 (search rules) (search rules) returns-4)
+pub check_spec : {M : Type 1} → statement M
+check_spec = tie.close (tie.spec (search rules) (search rules) (search rules) returns (search rules) (search rules)
+    (search rules) returns-2 (search rules) (search rules) (search rules) returns-3 (search rules) (search rules)
+    returns-4)

@@ -6,17 +6,14 @@ use borrow.Author.Rules.{rules}
 use Rattle.sbft.proofs.check.check_ib.Statement.{statement}
 use Rattle.sbft.proofs.check.check_ib.Tie as tie
 
-returns : tie.Need-returns
+returns : tie.Need-returns-then-absent
 unfolding ib_tests first_of
-returns c = sym (rw (sym c.before.absent.ensures ∙ c.if1.true))
+returns c = sym (rw (sym c.absent.ensures ∙ c.if-absent.true))
 
-returns-2 : tie.Need-returns-2
+returns-2 : tie.Need-returns
 unfolding ib_tests
 returns-2 c =
-    let at-offset-of = c.before in
-    let at-if1 = at-offset-of.before in
-    let at-absent = at-if1.before in
-    rw (sym at-absent.absent.ensures ∙ at-if1.if1.false, ← at-offset-of.offset-of.ensures) c.check-reserved.ensures
+    rw (sym c.absent.ensures ∙ c.if-absent.false, ← c.offset_of.ensures) c.check_reserved.ensures
 
-pub check-ib-spec : {M : Type 1} → statement M
-check-ib-spec = tie.close (tie.spec (search rules) returns (search rules) (search rules) returns-2)
+pub check_ib_spec : {M : Type 1} → statement M
+check_ib_spec = tie.close (tie.spec (search rules) returns (search rules) (search rules) returns-2)

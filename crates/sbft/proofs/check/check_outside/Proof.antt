@@ -12,38 +12,30 @@ use borrow.Author.Rules.{rules}
 use Rattle.sbft.proofs.check.check_outside.Statement.{statement}
 use Rattle.sbft.proofs.check.check_outside.Tie as tie
 
-abbrev invariant-loop : tie.invariant-loop
+abbrev invariant-loop : tie.invariant-loop-k
 invariant-loop t k₀ k = (k ≤ part_count) × (first_of (gather (outside_tests t) k (part_count - k)) ≡ first_of (gather (outside_tests t) 0 part_count))
 
-abbrev decreases-loop : tie.decreases-loop
+abbrev decreases-loop : tie.decreases-loop-k
 decreases-loop t k₀ k = part_count - k
 
-returns : tie.Need-returns invariant-loop decreases-loop
+returns : tie.Need-returns-then-outside invariant-loop decreases-loop
 unfolding outside_tests first_of
 returns c =
-    let at-part-of = c.before.before in
-    let at-if1 = at-part-of.before in
-    let at-outside = at-if1.before in
-    let at-loop = at-outside.before.before in
-    let at-start = at-loop.before.before in
-    let r = rw at-part-of.part_of.ensures at c.refuse.ensures in
-    let fails = sym at-outside.outside.ensures ∙ at-if1.if1.true in
-    let l = at-loop.loop in
-    gather-stop (outside_tests at-start.args.t.now) part_count l.k (omega arith) _ (r ∙ sym (rw fails)) _ r ∙ l.invariant.1
+    let r = rw c.part_of.ensures at c.refuse.ensures in
+    let fails = sym c.outside.ensures ∙ c.if-outside.true in
+    let l = c.loop-k in
+    gather-stop (outside_tests c.args.t.now) part_count l.k (omega arith) _ (r ∙ sym (rw fails)) _ r ∙ l.invariant.1
 
-loop-again : tie.Need-loop-preserved invariant-loop decreases-loop
+loop-again : tie.Need-loop-k-preserved invariant-loop decreases-loop
 unfolding outside_tests first_of
 loop-again c =
-    let at-outside = c.before in
-    let at-loop = at-outside.before.before in
-    let at-start = at-loop.before.before in
-    let passes = sym at-outside.outside.ensures ∙ c.if1.false in
-    let l = at-loop.loop in
-    (search rules, gather-go (outside_tests at-start.args.t.now) part_count l.k (omega arith) Accepted (sym (rw passes)) refl ∙ l.invariant.1)
+    let passes = sym c.outside.ensures ∙ c.if-outside.false in
+    let l = c.loop-k in
+    (search rules, gather-go (outside_tests c.args.t.now) part_count l.k (omega arith) Accepted (sym (rw passes)) refl ∙ l.invariant.1)
 
-returns-2 : tie.Need-returns-2 invariant-loop decreases-loop
-returns-2 c = sym (gather-end (outside_tests c.before.before.before.args.t.now) part_count c.before.loop.k (omega arith)) ∙ c.before.loop.invariant.1
+returns-2 : tie.Need-returns invariant-loop decreases-loop
+returns-2 c = sym (gather-end (outside_tests c.args.t.now) part_count c.loop-k.k (omega arith)) ∙ c.loop-k.invariant.1
 
-pub check-outside-spec : {M : Type 1} → statement M
-check-outside-spec = tie.close (tie.spec invariant-loop decreases-loop (search rules) (search rules) (search rules) (search rules)
-    (search rules) returns (search rules) (search rules) loop-again returns-2)
+pub check_outside_spec : {M : Type 1} → statement M
+check_outside_spec = tie.close (tie.spec invariant-loop decreases-loop (search rules) (search rules) (search rules)
+    (search rules) (search rules) returns (search rules) (search rules) loop-again returns-2)

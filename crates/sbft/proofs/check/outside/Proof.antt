@@ -8,33 +8,27 @@ use borrow.Author.Rules.{rules}
 use Rattle.sbft.proofs.check.outside.Statement.{statement}
 use Rattle.sbft.proofs.check.outside.Tie as tie
 
-returns : tie.Need-returns
+returns : tie.Need-returns-then-absent
 unfolding outside
-returns c = sym (rw (sym c.before.absent.ensures ∙ c.if1.true))
+returns c = sym (rw (sym c.absent.ensures ∙ c.if-absent.true))
 
-returns-2 : tie.Need-returns-2
+returns-2 : tie.Need-returns-then-offset_of-lt-START_END
 unfolding outside
 returns-2 c =
-    let at-if1 = c.before.before in
-    let at-absent = at-if1.before in
-    let at-start = at-absent.before.before in
-    let a = at-start.args in
-    sym (rw (sym at-absent.absent.ensures ∙ at-if1.if1.false, lt-ltb (offset_of a.t.now a.k) 48 (omega arith)))
+    let a = c.args in
+    sym (rw (sym c.absent.ensures ∙ c.if-absent.false, lt-ltb (offset_of a.t.now a.k) 48 (omega arith)))
 
-returns-3 : tie.Need-returns-3
+returns-3 : tie.Need-returns
 unfolding outside
 returns-3 c =
-    let at-length-of = c.before in
-    let at-if1 = at-length-of.before.before.before in
-    let at-absent = at-if1.before in
-    let at-start = at-absent.before.before in
-    let a = at-start.args in
+    let a = c.args in
     sym (rw (
-      sym at-absent.absent.ensures ∙ at-if1.if1.false,
+      sym c.absent.ensures ∙ c.if-absent.false,
       le-ltb (offset_of a.t.now a.k) 48 (omega arith),
-      ← at-length-of.length-of.ensures,
-      ← c.end_of_lem.ensures,
+      ← c.length_of.ensures,
+      ← c.end_of.ensures,
     ))
 
-pub outside-spec : {M : Type 1} → statement M
-outside-spec = tie.close (tie.spec (search rules) returns (search rules) returns-2 (search rules) (search rules) returns-3)
+pub outside_spec : {M : Type 1} → statement M
+outside_spec = tie.close (tie.spec (search rules) returns (search rules) returns-2 (search rules) (search rules)
+    returns-3)

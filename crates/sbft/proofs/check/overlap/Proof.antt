@@ -9,39 +9,32 @@ use borrow.Author.Rules.{rules}
 use Rattle.sbft.proofs.check.overlap.Statement.{statement}
 use Rattle.sbft.proofs.check.overlap.Tie as tie
 
-returns : tie.Need-returns
+returns : tie.Need-returns-then-absent
 unfolding overlap
-returns c = sym (rw (sym c.before.absent.ensures ∙ c.if1.true))
+returns c = sym (rw (sym c.absent.ensures ∙ c.if-absent.true))
 
-returns-2 : tie.Need-returns-2
+returns-2 : tie.Need-returns-then-absent-2
 unfolding overlap
-returns-2 c = sym (simp (sym c.before.absent2.ensures ∙ c.if2.true, and-false))
+returns-2 c = sym (simp (sym c.absent-2.ensures ∙ c.if-absent-2.true, and-false))
 
-returns-3 : tie.Need-returns-3
+returns-3 : tie.Need-returns-then-end_of-offset_of
 unfolding overlap
 returns-3 c =
-    let at-start = c.before.before.before.before.before.before.before.before in
-    let a = at-start.args in
+    let a = c.args in
     sym (simp (le-ltb (offset_of a.t.now a.i) (end_of a.t.now a.k) (omega arith), and-false))
 
-returns-4 : tie.Need-returns-4
+returns-4 : tie.Need-returns
 unfolding overlap
 returns-4 c =
-    let at-offset-of2 = c.before in
-    let at-if2 = at-offset-of2.before.before.before.before in
-    let at-absent2 = at-if2.before in
-    let at-if1 = at-absent2.before in
-    let at-absent = at-if1.before in
-    let at-start = at-absent.before.before in
-    let a = at-start.args in
+    let a = c.args in
     sym (rw (
-      sym at-absent.absent.ensures ∙ at-if1.if1.false,
-      sym at-absent2.absent2.ensures ∙ at-if2.if2.false,
+      sym c.absent.ensures ∙ c.if-absent.false,
+      sym c.absent-2.ensures ∙ c.if-absent-2.false,
       lt-ltb (offset_of a.t.now a.i) (end_of a.t.now a.k) (omega arith),
-      ← at-offset-of2.offset-of2.ensures,
-      ← c.end-of2.ensures,
+      ← c.offset_of-2.ensures,
+      ← c.end_of-2.ensures,
     ))
 
-pub overlap-spec : {M : Type 1} → statement M
-overlap-spec = tie.close (tie.spec (search rules) returns (search rules) returns-2 (search rules) (search rules)
+pub overlap_spec : {M : Type 1} → statement M
+overlap_spec = tie.close (tie.spec (search rules) returns (search rules) returns-2 (search rules) (search rules)
     (search rules) returns-3 (search rules) (search rules) (search rules) returns-4)

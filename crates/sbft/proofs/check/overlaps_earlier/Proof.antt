@@ -10,27 +10,25 @@ use borrow.Author.Rules.{rules}
 use Rattle.sbft.proofs.check.overlaps_earlier.Statement.{statement}
 use Rattle.sbft.proofs.check.overlaps_earlier.Tie as tie
 
-abbrev invariant-loop : tie.invariant-loop
+abbrev invariant-loop : tie.invariant-loop-i
 invariant-loop t k i₀ i = (i ≤ k) × ((j : ℕ) → j < i → overlap t k j ≡ false)
 
-abbrev decreases-loop : tie.decreases-loop
+abbrev decreases-loop : tie.decreases-loop-i
 decreases-loop t k i₀ i = k - i
 
-loop-holds : tie.Need-loop-init invariant-loop decreases-loop
+loop-holds : tie.Need-loop-i-init invariant-loop decreases-loop
 loop-holds c = (search rules, λ j h. absurd (omega arith))
 
-returns : tie.Need-returns invariant-loop decreases-loop
+returns : tie.Need-returns-then-overlap invariant-loop decreases-loop
 returns c =
-    let at-overlap = c.before in
-    let at-loop-test = at-overlap.before in
-    let at-loop = at-loop-test.before in
-    sym (any-yes _ _ at-loop.loop.i at-loop-test.loop-test.true (sym at-overlap.overlap.ensures ∙ c.if1.true))
+    sym (any-yes _ _ c.loop-i.i c.loop-i-test.true (sym c.overlap.ensures ∙ c.if-overlap.true))
 
-loop-again : tie.Need-loop-preserved invariant-loop decreases-loop
-loop-again c = (search rules, below_more _ _ c.before.before.before.loop.invariant.1 (sym c.before.overlap.ensures ∙ c.if1.false))
+loop-again : tie.Need-loop-i-preserved invariant-loop decreases-loop
+loop-again c = (search rules, below_more _ _ c.loop-i.invariant.1 (sym c.overlap.ensures ∙ c.if-overlap.false))
 
-returns-2 : tie.Need-returns-2 invariant-loop decreases-loop
-returns-2 c = sym (any-no _ _ (λ j h. c.before.loop.invariant.1 j (omega arith)))
+returns-2 : tie.Need-returns invariant-loop decreases-loop
+returns-2 c = sym (any-no _ _ (λ j h. c.loop-i.invariant.1 j (omega arith)))
 
-pub overlaps-earlier-spec : {M : Type 1} → statement M
-overlaps-earlier-spec = tie.close (tie.spec invariant-loop decreases-loop loop-holds (search rules) returns (search rules) (search rules) loop-again returns-2)
+pub overlaps_earlier_spec : {M : Type 1} → statement M
+overlaps_earlier_spec = tie.close (tie.spec invariant-loop decreases-loop loop-holds (search rules) returns
+    (search rules) (search rules) loop-again returns-2)

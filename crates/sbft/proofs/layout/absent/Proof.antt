@@ -7,17 +7,17 @@ use borrow.Author.Rules.{rules}
 use Rattle.sbft.proofs.layout.absent.Statement.{statement}
 use Rattle.sbft.proofs.layout.absent.Tie as tie
 
-returns : tie.Need-returns
+returns : tie.Need-returns-then-not-part_of
 unfolding absent
 returns c =
-    let optional = ap (λ (p : Part). p.optional) c.before.before.part_of.ensures in
-    sym (rw (sym optional ∙ not-true _ c.if1.true))
+    let optional = ap (λ (p : Part). p.optional) c.part_of.ensures in
+    sym (rw (sym optional ∙ not-true _ c.if-not-part_of.true))
 
-returns-2 : tie.Need-returns-2
+returns-2 : tie.Need-returns
 unfolding absent
 returns-2 c =
-    let optional = ap (λ (p : Part). p.optional) c.before.before.before.part_of.ensures in
-    sym (rw (sym optional ∙ not-false _ c.before.if1.false, ← c.offset-of.ensures))
+    let optional = ap (λ (p : Part). p.optional) c.part_of.ensures in
+    sym (rw (sym optional ∙ not-false _ c.if-not-part_of.false, ← c.offset_of.ensures))
 
-pub absent-spec : {M : Type 1} → statement M
-absent-spec = tie.close (tie.spec (search rules) returns (search rules) returns-2)
+pub absent_spec : {M : Type 1} → statement M
+absent_spec = tie.close (tie.spec (search rules) returns (search rules) returns-2)

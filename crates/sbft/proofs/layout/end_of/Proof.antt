@@ -6,7 +6,7 @@ use Rattle.sbft.proofs.layout.end_of.Tie as tie
 
 returns : tie.Need-returns
 unfolding end_of
-returns c = rw (c.before.part_of.ensures, c.before.before.offset-of.ensures)
+returns c = rw (c.part_of.ensures, c.offset_of.ensures)
 
-pub end-of-spec : {M : Type 1} → statement M
-end-of-spec = tie.close (tie.spec (search rules) (search rules) (search rules) (search rules) (search rules) returns)
+pub end_of_spec : {M : Type 1} → statement M
+end_of_spec = tie.close (tie.spec (search rules) (search rules) (search rules) (search rules) (search rules) returns)

@@ -6,7 +6,7 @@ use Rattle.sbft.proofs.layout.offset_of.Tie as tie
 
 returns : tie.Need-returns
 unfolding offset_of
-returns c = rw c.before.before.part_of.ensures at c.u16-at.ensures
+returns c = rw c.part_of.ensures at c.u16_at.ensures
 
-pub offset-of-spec : {M : Type 1} → statement M
-offset-of-spec = tie.close (tie.spec (search rules) (search rules) (search rules) returns)
+pub offset_of_spec : {M : Type 1} → statement M
+offset_of_spec = tie.close (tie.spec (search rules) (search rules) (search rules) returns)

@@ -13,16 +13,13 @@ use Rattle.sbft.proofs.reading.part_in.Tie as tie
 
 returns : tie.Need-returns
 returns c =
-    let at_part = c.before in
-    let at-offset-of = at_part.before in
-    let at-start = at-offset-of.before.before in
-    let a = at-start.args in
+    let a = c.args in
     let t = a.t.now in
-    let offset = at-offset-of.offset-of in
-    let lent : at_part.part.result.now ≡ part t offset.result (length t) = at_part.part.ensures.bytes in
-    let bytes : at_part.part.result.now ≡ drop (offset_of t a.k) t =
+    let offset = c.offset_of in
+    let lent : c.part.result.now ≡ part t offset.result (length t) = c.part.ensures.bytes in
+    let bytes : c.part.result.now ≡ drop (offset_of t a.k) t =
     lent ∙ part-rest t offset.result (length t) (omega arith) ∙ ap (λ (n : ℕ). drop n t) offset.ensures in
-    c.Shown-of.ensures.0 ∙ ap (shown a.verdict) bytes
+    c.shown_of.ensures.0 ∙ ap (shown a.verdict) bytes
 
-pub part-in-spec : {M : Type 1} → statement M
-part-in-spec = tie.close (tie.spec (search rules) (search rules) (search rules) (search rules) returns)
+pub part_in_spec : {M : Type 1} → statement M
+part_in_spec = tie.close (tie.spec (search rules) (search rules) (search rules) (search rules) returns)

@@ -9,28 +9,22 @@ use borrow.Author.Rules.{rules}
 use Rattle.sbft.proofs.reading.part_verdict.Statement.{statement}
 use Rattle.sbft.proofs.reading.part_verdict.Tie as tie
 
-returns : tie.Need-returns
+returns : tie.Need-returns-in-Refused
 unfolding check_of part_verdict
-returns c = append-stop _ _ _ c.before.before.check.ensures.verdict-is _ c.enum_told.given.1
+returns c = append-stop _ _ _ c.check-verdict.ensures.verdict-is _ c.in-Refused.is
 
-returns-2 : tie.Need-returns-2
+returns-2 : tie.Need-returns-then-absent
 unfolding part_verdict first_of
 returns-2 c =
-    let at-if1 = c.before in
-    let at-absent = at-if1.before in
-    let at-enum-told2 = at-absent.before in
-    let at-check = at-enum-told2.before.before in
-    let accepted = sym at-check.check.ensures.verdict-is ∙ at-enum-told2.enum-told2.given.1 in
-    sym (behind-check _ _ accepted ∙ rw (sym at-absent.absent.ensures ∙ at-if1.if1.true) (sym c.refuse.ensures))
+    let accepted = sym c.check-verdict.ensures.verdict-is ∙ c.in_default.is in
+    sym (behind-check _ _ accepted ∙ rw (sym c.absent.ensures ∙ c.if-absent.true) (sym c.refuse.ensures))
 
-returns-3 : tie.Need-returns-3
+returns-3 : tie.Need-returns
 unfolding part_verdict first_of
 returns-3 c =
-    let at-absent = c.before in
-    let at-enum-told2 = at-absent.before in
-    let at-check = at-enum-told2.before.before in
-    let accepted = sym at-check.check.ensures.verdict-is ∙ at-enum-told2.enum-told2.given.1 in
-    sym (behind-check _ _ accepted ∙ rw (sym at-absent.absent.ensures ∙ c.if1.false))
+    let accepted = sym c.check-verdict.ensures.verdict-is ∙ c.in_default.is in
+    sym (behind-check _ _ accepted ∙ rw (sym c.absent.ensures ∙ c.if-absent.false))
 
-pub part-verdict-spec : {M : Type 1} → statement M
-part-verdict-spec = tie.close (tie.spec (search rules) (search rules) returns (search rules) (search rules) (search rules) returns-2 returns-3)
+pub part_verdict_spec : {M : Type 1} → statement M
+part_verdict_spec = tie.close (tie.spec (search rules) (search rules) returns (search rules) (search rules)
+    (search rules) returns-2 returns-3)

@@ -7,10 +7,7 @@ use Rattle.sbft.proofs.reading.read_start.Tie as tie
 returns : tie.Need-returns
 unfolding start_of
 returns c =
-    let at-shown-of = c.before in
-    let at-refusal-of = at-shown-of.before in
-    let at-check = at-refusal-of.before in
-    rw (c.read.ensures, at-shown-of.Shown-of.ensures.0, at-refusal-of.refusal-of.ensures, at-check.check.ensures.verdict-is)
+    rw (c.read.ensures, c.shown_of.ensures.0, c.refusal_of.ensures, c.check-verdict.ensures.verdict-is)
 
-pub read-start-spec : {M : Type 1} → statement M
-read-start-spec = tie.close (tie.spec (search rules) (search rules) (search rules) (search rules) returns)
+pub read_start_spec : {M : Type 1} → statement M
+read_start_spec = tie.close (tie.spec (search rules) (search rules) (search rules) (search rules) returns)

@@ -5,12 +5,12 @@ use borrow.Author.Rules.{rules}
 use Rattle.sbft.proofs.write.offset_written.Statement.{statement}
 use Rattle.sbft.proofs.write.offset_written.Tie as tie
 
-returns : tie.Need-returns
-returns c = sym (rw (sym c.before.absent.ensures ∙ c.if1.true))
+returns : tie.Need-returns-then-absent
+returns c = sym (rw (sym c.absent.ensures ∙ c.if-absent.true))
 
-returns-2 : tie.Need-returns-2
+returns-2 : tie.Need-returns
 unfolding place_of
-returns-2 c = rw (sym c.before.before.absent.ensures ∙ c.before.if1.false, c.part_of.ensures)
+returns-2 c = rw (sym c.absent.ensures ∙ c.if-absent.false, c.part_of.ensures)
 
-pub offset-written-spec : {M : Type 1} → statement M
-offset-written-spec = tie.close (tie.spec (search rules) returns (search rules) returns-2)
+pub offset_written_spec : {M : Type 1} → statement M
+offset_written_spec = tie.close (tie.spec (search rules) returns (search rules) returns-2)

@@ -13,42 +13,34 @@ use borrow.Author.Rules.{rules}
 use Rattle.sbft.proofs.write.put_offsets.Statement.{statement}
 use Rattle.sbft.proofs.write.put_offsets.Tie as tie
 
-abbrev invariant-loop : tie.invariant-loop
+abbrev invariant-loop : tie.invariant-loop-k
 invariant-loop room₀ image k₀ room k = (k ≤ part_count) × (length room ≡ length room₀) × (room ≡ write room₀ 36 (gather (word_written image) 0 k))
 
-abbrev decreases-loop : tie.decreases-loop
+abbrev decreases-loop : tie.decreases-loop-k
 decreases-loop room₀ image k₀ room k = part_count - k
 
-loop-holds : tie.Need-loop-init invariant-loop decreases-loop
+loop-holds : tie.Need-loop-k-init invariant-loop decreases-loop
 unfolding gather
 loop-holds c = (search rules, refl, sym (write-nothing _ _))
 
-loop-again : tie.Need-loop-preserved invariant-loop decreases-loop
+loop-again : tie.Need-loop-k-preserved invariant-loop decreases-loop
 unfolding word_written
 loop-again c =
-    let at-put-u16 = c.before.before in
-    let at-offset-written = at-put-u16.before in
-    let at-part-of = at-offset-written.before.before in
-    let at-loop-test = at-part-of.before.before in
-    let at-loop = at-loop-test.before in
-    let at-start = at-loop.before.before.before in
-    let a = at-start.args in
-    let l = at-loop.loop in
-    let offset = at-offset-written.offset-written.ensures in
-    let part = at-part-of.part_of.ensures in
-    let put : at-put-u16.put-u16.new.0 ≡ write l.room (part_of l.k).word
-    (word_written a.image.now l.k) = rw (part, offset) at at-put-u16.put-u16.ensures in
-    let next = offsets-more a.image.now a.room.now l.room _ l.k at-loop-test.loop-test.true l.invariant.2 put in
+    let a = c.args in
+    let l = c.loop-k in
+    let offset = c.offset_written.ensures in
+    let part = c.part_of.ensures in
+    let put : c.put_u16.new.t ≡ write l.room (part_of l.k).word
+    (word_written a.image.now l.k) = rw (part, offset) at c.put_u16.ensures in
+    let next = offsets-more a.image.now a.room.now l.room _ l.k c.loop-k-test.true l.invariant.2 put in
     (search rules, length-written _ _ _ _ next, next)
 
 returns : tie.Need-returns invariant-loop decreases-loop
 returns c =
-    let at-loop = c.before in
-    let at-start = at-loop.before.before.before in
-    let l = at-loop.loop in
+    let l = c.loop-k in
     let all : l.k ≡ part_count = omega arith in
-    l.invariant.2 ∙ ap (λ (k : ℕ). write at-start.args.room.now 36 (gather (word_written at-start.args.image.now) 0 k)) all
+    l.invariant.2 ∙ ap (λ (k : ℕ). write c.args.room.now 36 (gather (word_written c.args.image.now) 0 k)) all
 
-pub put-offsets-spec : {M : Type 1} → statement M
-put-offsets-spec = tie.close (tie.spec invariant-loop decreases-loop loop-holds (search rules) (search rules) (search rules)
-    (search rules) (search rules) (search rules) loop-again (search rules) returns)
+pub put_offsets_spec : {M : Type 1} → statement M
+put_offsets_spec = tie.close (tie.spec invariant-loop decreases-loop loop-holds (search rules) (search rules)
+    (search rules) (search rules) (search rules) (search rules) loop-again (search rules) returns)

@@ -7,10 +7,8 @@ use Rattle.sbft.proofs.fields.Ib.read.Tie as tie
 returns : tie.Need-returns
 unfolding ib_in
 returns c =
-    let at-eight-at = c.before in
-    let at-sixteen-at2 = at-eight-at.before in
-    let at-sixteen-at = at-sixteen-at2.before in
-    rw (at-sixteen-at.sixteen-at.ensures, at-sixteen-at2.sixteen-at2.ensures, at-eight-at.eight-at.ensures, c.u16-at.ensures)
+    rw (c.sixteen_at.ensures, c.sixteen_at-2.ensures, c.eight_at.ensures, c.u16_at.ensures)
 
 pub read_spec : {M : Type 1} → statement M
-read_spec = tie.close (tie.spec (search rules) (search rules) (search rules) (search rules) (search rules) (search rules) (search rules) (search rules) returns)
+read_spec = tie.close (tie.spec (search rules) (search rules) (search rules) (search rules) (search rules)
+    (search rules) (search rules) (search rules) returns)

@@ -6,7 +6,7 @@ use Rattle.sbft.proofs.fields.Scsi.read.Tie as tie
 
 returns : tie.Need-returns
 unfolding scsi_in
-returns c = rw c.eight-at.ensures
+returns c = rw c.eight_at.ensures
 
 pub read_spec : {M : Type 1} → statement M
 read_spec = tie.close (tie.spec (search rules) (search rules) returns)

@@ -6,7 +6,7 @@ use Rattle.sbft.proofs.fields.Srp.read.Tie as tie
 
 returns : tie.Need-returns
 unfolding srp_in
-returns c = rw (c.before.sixteen-at.ensures, c.sixteen-at2.ensures)
+returns c = rw (c.sixteen_at.ensures, c.sixteen_at-2.ensures)
 
 pub read_spec : {M : Type 1} → statement M
 read_spec = tie.close (tie.spec (search rules) (search rules) (search rules) (search rules) returns)

@@ -6,7 +6,7 @@ use Rattle.sbft.proofs.fields.Start.read.Tie as tie
 
 returns : tie.Need-returns
 unfolding start_in
-returns c = rw (c.before.six-at.ensures, c.eight-at.ensures)
+returns c = rw (c.six_at.ensures, c.eight_at.ensures)
 
 pub read_spec : {M : Type 1} → statement M
 read_spec = tie.close (tie.spec (search rules) (search rules) (search rules) (search rules) returns)
