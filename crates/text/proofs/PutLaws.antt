@@ -2,15 +2,15 @@
 -- the place behind it is the room's end, and nothing more is written.
 -- Assumes nothing.
 use mathlib.Core.Path.{◌≡◌, refl, sym, ap, ◌∙◌}
-use mathlib.Core.List.{List, [], ◌∷◌, ◌++◌}
-use Prim.Native.Nat.{ℕ, ◌+◌, ◌≤◌, ◌<◌, min}
+use mathlib.Core.List.{List, [], ◌++◌}
+use Prim.Native.Nat.{ℕ, ◌+◌, ◌≤◌, min}
 use native.Mathlib.Decide.{dec_le}
 use native.Mathlib.Omega.{arith}
 use lib.ListN.{length, take, drop, length-append}
 use lib.Seq.{take-append_seam}
 use Rattle.octets.specs.Octets.{write}
-use Rattle.octets.proofs.WriteLaws.{length-write, write-next, write-past, write-cut, write-nothing, write-front}
-use Rattle.text.specs.Put.{behind, Puts}
+use Rattle.octets.proofs.WriteLaws.{length-write, write-next, write-past, write-nothing, write-front}
+use Rattle.text.specs.Put.{Puts}
 
 -- nothing put, where the place lies in the room
 pub puts-nothing : (t : List ℕ) (at : ℕ) → at ≤ length t → Puts t t at at []

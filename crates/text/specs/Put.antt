@@ -1,7 +1,7 @@
 -- Text as bytes, and text put into lent room. Assumes nothing: these are definitions.
-use Rattle.std.specs.Prelude.{◌≡◌, List, [], ◌∷◌, ℕ, ◌+◌, min, length}
+use Rattle.std.specs.Prelude.{◌≡◌, List, ℕ, ◌+◌, min, length}
 use Prim.Native.Char.{code}
-use Prim.Native.String.{String, len, char_at, slice}
+use Prim.Native.String.{String, len, char_at}
 use Rattle.octets.specs.Counting.{tabulate}
 use Rattle.octets.specs.Octets.{write}
 

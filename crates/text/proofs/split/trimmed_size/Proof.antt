@@ -1,11 +1,10 @@
 -- `trimmed_size` meets its contract: the bytes from n on are blanks, so the first n are left as the whole is. Assumes nothing.
 use mathlib.Core.Path.{◌≡◌, sym, ap, ◌∙◌}
-use Prim.Native.Nat.{◌-◌, ◌≤◌}
+use Prim.Native.Nat.{◌≤◌}
 use native.Mathlib.Omega.{arith}
 use lib.ListN.{length, take}
 use lib.Seq.{take-length}
 use borrow.Author.Rules.{rules}
-use borrow.Author.Tests.{not-true, not-false}
 use Rattle.text.specs.Split.{trim_end}
 use Rattle.text.proofs.SplitLaws.{trim_end-less, trim_end-stop, trim_end-none}
 use Rattle.text.proofs.split.trimmed_size.Statement.{statement}
