@@ -27,65 +27,60 @@ abbrev from-control : List ℕ → List Test
 from-control t = control_tests t ++ from-words t
 
 -- the table, from behind each part that has passed
-abbrev table1 : tie.After-enum-told2 → List ℕ
-table1 c = c.before.before.before.before.args.t.now
+abbrev table1 : tie.In_default → List ℕ
+table1 c = c.args.t.now
 
-abbrev table2 : tie.After-enum-told4 → List ℕ
-table2 c = table1 c.before.before.before.before
+abbrev table2 : tie.In_default-v → List ℕ
+table2 c = table1 c.before.before.before
 
-abbrev table3 : tie.After-enum-told6 → List ℕ
-table3 c = table2 c.before.before.before.before.before
+abbrev table3 : tie.In_default-v-2 → List ℕ
+table3 c = table2 c.before.before.before.before
 
-abbrev table4 : tie.After-enum-told8 → List ℕ
-table4 c = table3 c.before.before.before
+abbrev table4 : tie.In_default-v-3 → List ℕ
+table4 c = table3 c.before.before
 
-header-passed : (c : tie.After-enum-told2) → first_of (from-control (table1 c)) ≡ check_of (table1 c)
+header-passed : (c : tie.In_default) → first_of (from-control (table1 c)) ≡ check_of (table1 c)
 unfolding check_of check_tests
-header-passed c = append-go _ _ _ c.before.before.check-header.ensures c.enum-told2.given.1
+header-passed c = append-go _ _ _ c.check_header-v.ensures c.in_default.is
 
-control-passed : (c : tie.After-enum-told4) → first_of (from-words (table2 c)) ≡ check_of (table2 c)
+control-passed : (c : tie.In_default-v) → first_of (from-words (table2 c)) ≡ check_of (table2 c)
 control-passed c =
-    let at-check-control = c.before.before in
-    append-go _ _ _ at-check-control.check-control.ensures c.enum-told4.given.1 ∙ header-passed at-check-control.before.before
+    append-go _ _ _ c.check_control-v.ensures c.in_default-v.is ∙ header-passed c.before.before.before
 
-words-passed : (c : tie.After-enum-told6) → first_of (from-overlaps (table3 c)) ≡ check_of (table3 c)
+words-passed : (c : tie.In_default-v-2) → first_of (from-overlaps (table3 c)) ≡ check_of (table3 c)
 words-passed c =
-    let at-check-words = c.before.before in
-    append-go _ _ _ at-check-words.check-words.ensures c.enum-told6.given.1 ∙ control-passed at-check-words.before.before.before
+    append-go _ _ _ c.check_words-v.ensures c.in_default-v-2.is ∙ control-passed c.before.before.before.before
 
-overlaps-passed : (c : tie.After-enum-told8) → first_of (from-entries (table4 c)) ≡ check_of (table4 c)
-overlaps-passed c = append-go _ _ _ c.before.before.check-overlaps.ensures c.enum-told8.given.1 ∙ words-passed c.before.before.before
+overlaps-passed : (c : tie.In_default-v-3) → first_of (from-entries (table4 c)) ≡ check_of (table4 c)
+overlaps-passed c = append-go _ _ _ c.check_overlaps-v.ensures c.in_default-v-3.is ∙ words-passed c.before.before
 
-returns : tie.Need-returns
+returns : tie.Need-returns-in-Refused
 unfolding check_of check_tests
-returns c = check-promise _ _ (append-stop _ _ _ c.before.before.check-header.ensures _ c.enum_told.given.1)
+returns c = check-promise _ _ (append-stop _ _ _ c.check_header-v.ensures _ c.in-Refused.is)
 
-returns-2 : tie.Need-returns-2
+returns-2 : tie.Need-returns-in-Refused-v
 returns-2 c =
-    let at-check-control = c.before.before in
-    check-promise _ _ (append-stop _ _ _ at-check-control.check-control.ensures _ c.enum-told3.given.1
-    ∙ header-passed at-check-control.before.before)
+    check-promise _ _ (append-stop _ _ _ c.check_control-v.ensures _ c.in-Refused-v.is
+    ∙ header-passed c.before.before.before)
 
-returns-3 : tie.Need-returns-3
+returns-3 : tie.Need-returns-in-Refused-v-2
 returns-3 c =
-    let at-check-words = c.before.before in
-    check-promise _ _ (append-stop _ _ _ at-check-words.check-words.ensures _ c.enum-told5.given.1
-    ∙ control-passed at-check-words.before.before.before)
+    check-promise _ _ (append-stop _ _ _ c.check_words-v.ensures _ c.in-Refused-v-2.is
+    ∙ control-passed c.before.before.before.before)
 
-returns-4 : tie.Need-returns-4
-returns-4 c = check-promise _ _ (append-stop _ _ _ c.before.before.check-overlaps.ensures _ c.enum-told7.given.1
-    ∙ words-passed c.before.before.before)
+returns-4 : tie.Need-returns-in-Refused-v-3
+returns-4 c = check-promise _ _ (append-stop _ _ _ c.check_overlaps-v.ensures _ c.in-Refused-v-3.is
+    ∙ words-passed c.before.before)
 
-check-entries-requires : tie.Need-check-entries-requires
+check-entries-requires : tie.Need-check_entries-requires
 check-entries-requires c κs =
-    let at-word-count = c.before.before.before.before.before.before.before.before in
-    let at-length-of = at-word-count.before.before.before.before in
-    (at-length-of.length-of.ensures, c.heap-start.ensures, at-word-count.word_count.ensures.0)
+    (c.length_of-length.ensures, c.heap_start.ensures, c.word_count-words.ensures.0)
 
-returns-5 : tie.Need-returns-5
-returns-5 c = check-promise _ _ (c.check-entries.ensures ∙ overlaps-passed c.before.before)
+returns-5 : tie.Need-returns
+returns-5 c = check-promise _ _ (c.check_entries.ensures ∙ overlaps-passed c.before.before)
 
-pub check-spec : {M : Type 1} → statement M
-check-spec = tie.close (tie.spec (search rules) (search rules) returns (search rules) (search rules) (search rules)
+pub check_spec : {M : Type 1} → statement M
+check_spec = tie.close (tie.spec (search rules) (search rules) returns (search rules) (search rules) (search rules)
     (search rules) returns-2 (search rules) (search rules) (search rules) (search rules) (search rules) returns-3
-    (search rules) (search rules) (search rules) returns-4 (search rules) (search rules) check-entries-requires returns-5)
+    (search rules) (search rules) (search rules) returns-4 (search rules) (search rules) check-entries-requires
+    returns-5)

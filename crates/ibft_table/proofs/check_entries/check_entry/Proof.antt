@@ -23,195 +23,177 @@ use Rattle.ibft_table.proofs.check_entries.check_entry.Tie as tie
 abbrev tests : tie.Start → List Test
 tests s = entry_tests (starts_of s.args.t.now) s.args.t.now s.args.n
 
-here : (c : tie.Else1) → present_in (starts_of c.before.before.before.before.args.t.now) (owner_of c.before.before.before.before.args.n) ≡ true
+here : (c : tie.Else-start-eq0) → present_in (starts_of c.args.t.now) (owner_of c.args.n) ≡ true
 unfolding present_in
 here c =
-    let at-entry-start = c.before in
-    let at-start = at-entry-start.before.before.before in
-    let s = starts_of at-start.args.t.now in
-    let t = at-start.args.t.now in
-    let n = at-start.args.n in
-    let start = at-entry-start.entry-start.ensures in
+    let s = starts_of c.args.t.now in
+    let t = c.args.t.now in
+    let n = c.args.n in
+    let start = c.entry_start-start.ensures in
     rw (ne_eqb (start_in s (owner_of n)) 0 (omega arith))
 
 -- what the calls answer, as the tests have it
-field_is : (c : tie.After-string-of) → c.before.before.entry-start.result + c.string-of.result.at
-    ≡ field_in (starts_of c.before.before.before.before.before.args.t.now)
-    c.before.before.before.before.before.args.n
+field_is : (c : tie.After-string_of-string) → c.entry_start-start.result + c.string_of-string.result.at
+    ≡ field_in (starts_of c.args.t.now)
+    c.args.n
 unfolding field_in
-field_is c = rw (c.before.before.entry-start.ensures, c.string-of.ensures)
+field_is c = rw (c.entry_start-start.ensures, c.string_of-string.ensures)
 
-size_is : (c : tie.After-read) → c.read.result.length
-    ≡ size_in (starts_of c.before.before.before.before.before.before.before.args.t.now)
-    c.before.before.before.before.before.before.before.args.t.now
-    c.before.before.before.before.before.before.before.args.n
+size_is : (c : tie.After-read-words) → c.read-words.result.length
+    ≡ size_in (starts_of c.args.t.now)
+    c.args.t.now
+    c.args.n
 unfolding size_in
 size_is c =
-    let at-start = c.before.before.before.before.before.before.before in
-    ap (λ (x : StringWords). x.length) c.read.ensures ∙ ap (word16 at-start.args.t.now) (field_is c.before.before)
+    ap (λ (x : StringWords). x.length) c.read-words.ensures ∙ ap (word16 c.args.t.now) (field_is c.before.before)
 
-offset-is : (c : tie.After-read) → c.read.result.offset
-    ≡ offset_in (starts_of c.before.before.before.before.before.before.before.args.t.now)
-    c.before.before.before.before.before.before.before.args.t.now
-    c.before.before.before.before.before.before.before.args.n
+offset-is : (c : tie.After-read-words) → c.read-words.result.offset
+    ≡ offset_in (starts_of c.args.t.now)
+    c.args.t.now
+    c.args.n
 unfolding offset_in
 offset-is c =
-    let at-start = c.before.before.before.before.before.before.before in
-    ap (λ (x : StringWords). x.offset) c.read.ensures ∙ ap (λ (f : ℕ). word16 at-start.args.t.now (f + 2)) (field_is c.before.before)
+    ap (λ (x : StringWords). x.offset) c.read-words.ensures ∙ ap (λ (f : ℕ). word16 c.args.t.now (f + 2)) (field_is c.before.before)
 
 held-is : (c : tie.After-missing) → holds_in
-    (starts_of c.before.before.before.before.before.before.before.before.args.t.now)
-    c.before.before.before.before.before.before.before.before.args.t.now
-    c.before.before.before.before.before.before.before.before.args.n ≡ not c.missing.result
+    (starts_of c.args.t.now)
+    c.args.t.now
+    c.args.n ≡ not c.missing.result
 unfolding holds_in
 held-is c =
-    let at_read = c.before in
-    rw (here at_read.before.before.before, ← size_is at_read, ← offset-is at_read, c.missing.ensures)
-    (differs-or (eqb at_read.read.result.length 0) (eqb at_read.read.result.offset 0))
+    rw (here c.before.before.before.before, ← size_is c.before, ← offset-is c.before, c.missing.ensures)
+    (differs-or (eqb c.read-words.result.length 0) (eqb c.read-words.result.offset 0))
 
-held : (c : tie.Else2) → holds_in (starts_of
-    c.before.before.before.before.before.before.before.before.before.args.t.now)
-    c.before.before.before.before.before.before.before.before.before.args.t.now
-    c.before.before.before.before.before.before.before.before.before.args.n ≡ true
-held c = held-is c.before ∙ ap not c.if2.false
+held : (c : tie.Else-missing) → holds_in (starts_of
+    c.args.t.now)
+    c.args.t.now
+    c.args.n ≡ true
+held c = held-is c.before ∙ ap not c.if-missing.false
 
-pass1 : (c : tie.Else3) → Passed (tests c.before.before.before.before.before.before.before.before.before.before) 1
+pass1 : (c : tie.Else-offset-heap) → Passed (tests c.before.before.before.before.before.before.before.before.before.before) 1
 unfolding first_of entry_tests
 pass1 c =
-    let at-start = c.before.before.before.before.before.before.before.before.before.before in
-    let s = starts_of at-start.args.t.now in
-    let t = at-start.args.t.now in
-    let n = at-start.args.n in
+    let s = starts_of c.args.t.now in
+    let t = c.args.t.now in
+    let n = c.args.n in
     let offset = offset-is c.before.before.before in
     rw (held c.before, le-ltb (offset_in s t n) (heap_of t) (omega arith))
 
-pass2 : (c : tie.Else4) → Passed (tests c.before.before.before.before.before.before.before.before.before.before.before) 2
+pass2 : (c : tie.Else-length-end) → Passed (tests c.before.before.before.before.before.before.before.before.before.before.before) 2
 unfolding first_of entry_tests
 pass2 c =
-    let at-start = c.before.before.before.before.before.before.before.before.before.before.before in
-    let s = starts_of at-start.args.t.now in
-    let t = at-start.args.t.now in
-    let n = at-start.args.n in
+    let s = starts_of c.args.t.now in
+    let t = c.args.t.now in
+    let n = c.args.n in
     let size = size_is c.before.before.before.before in
     let offset = offset-is c.before.before.before.before in
     pass1 c.before ∙ rw (held c.before.before, le-ltb (length_of t) (offset_in s t n + size_in s t n) (omega arith))
 
 -- no entry at or above the heap has offset 0
-pass3 : (c : tie.Else4) → Passed (tests c.before.before.before.before.before.before.before.before.before.before.before) 3
+pass3 : (c : tie.Else-length-end) → Passed (tests c.before.before.before.before.before.before.before.before.before.before.before) 3
 unfolding first_of entry_tests
 pass3 c =
-    let at-start = c.before.before.before.before.before.before.before.before.before.before.before in
-    let s = starts_of at-start.args.t.now in
-    let t = at-start.args.t.now in
-    let n = at-start.args.n in
+    let s = starts_of c.args.t.now in
+    let t = c.args.t.now in
+    let n = c.args.n in
     let offset = offset-is c.before.before.before.before in
     pass2 c ∙ simp (held c.before.before, ne_eqb (offset_in s t n) 0 (omega (arith, heap-after-control t)), and-false)
 
-pass4 : (c : tie.Else5) → Passed (tests c.before.before.before.before.before.before.before.before.before.before.before.before) 4
+pass4 : (c : tie.Else-length-end-2) → Passed (tests c.before.before.before.before.before.before.before.before.before.before.before.before) 4
 unfolding first_of entry_tests
 pass4 c =
-    let at-start = c.before.before.before.before.before.before.before.before.before.before.before.before in
-    let s = starts_of at-start.args.t.now in
-    let t = at-start.args.t.now in
-    let n = at-start.args.n in
+    let s = starts_of c.args.t.now in
+    let t = c.args.t.now in
+    let n = c.args.n in
     let size = size_is c.before.before.before.before.before in
     let offset = offset-is c.before.before.before.before.before in
     pass3 c.before ∙ rw (held c.before.before.before, lt-leb (length_of t) (offset_in s t n + size_in s t n) (omega arith))
 
-pass5 : (c : tie.Else6) → Passed (tests c.before.before.before.before.before.before.before.before.before.before.before.before.before.before) 5
+pass5 : (c : tie.Else-byte_at-ne0) → Passed (tests c.before.before.before.before.before.before.before.before.before.before.before.before.before.before) 5
 unfolding first_of entry_tests
 pass5 c =
-    let at-byte-at = c.before in
-    pass4 at-byte-at.before
+    pass4 c.before.before
     ∙ rw (
-      held at-byte-at.before.before.before.before,
-      ← size_is at-byte-at.before.before.before.before.before.before,
-      ← offset-is at-byte-at.before.before.before.before.before.before,
-      ← at-byte-at.byte_at.ensures,
-      eq-eqb _ _ c.if6.false,
+      held c.before.before.before.before.before,
+      ← size_is c.before.before.before.before.before.before.before,
+      ← offset-is c.before.before.before.before.before.before.before,
+      ← c.byte_at.ensures,
+      eq-eqb _ _ c.if-byte_at-ne0.false,
     )
 
-returns : tie.Need-returns
+returns : tie.Need-returns-then-start-eq0
 unfolding first_of entry_tests holds_in present_in
 returns c =
-    let at-entry-start = c.before in
-    let at-start = at-entry-start.before.before.before in
-    let s = starts_of at-start.args.t.now in
-    let t = at-start.args.t.now in
-    let n = at-start.args.n in
-    let start = at-entry-start.entry-start.ensures in
+    let s = starts_of c.args.t.now in
+    let t = c.args.t.now in
+    let n = c.args.n in
+    let start = c.entry_start-start.ensures in
     sym (rw (eq-eqb (start_in s (owner_of n)) 0 (omega arith)))
 
-returns-2 : tie.Need-returns-2
+returns-2 : tie.Need-returns-then-missing
 unfolding first_of entry_tests
-returns-2 c = sym (rw (held-is c.before ∙ ap not c.if2.true))
+returns-2 c = sym (rw (held-is c.before ∙ ap not c.if-missing.true))
 
-returns-3 : tie.Need-returns-3
+returns-3 : tie.Need-returns-then-offset-heap
 unfolding first_of entry_tests
 returns-3 c =
-    let at-start = c.before.before.before.before.before.before.before.before.before.before.before in
-    let s = starts_of at-start.args.t.now in
-    let t = at-start.args.t.now in
-    let n = at-start.args.n in
+    let s = starts_of c.args.t.now in
+    let t = c.args.t.now in
+    let n = c.args.n in
     let offset = offset-is c.before.before.before.before in
     rw (field_is c.before.before.before.before.before.before) at c.refuse.ensures
     ∙ sym (rw (held c.before.before, lt-ltb (offset_in s t n) (heap_of t) (omega arith)))
 
-returns-4 : tie.Need-returns-4
+returns-4 : tie.Need-returns-then-length-end
 unfolding first_of entry_tests
 returns-4 c =
-    let at-start = c.before.before.before.before.before.before.before.before.before.before.before.before in
-    let s = starts_of at-start.args.t.now in
-    let t = at-start.args.t.now in
-    let n = at-start.args.n in
+    let s = starts_of c.args.t.now in
+    let t = c.args.t.now in
+    let n = c.args.n in
     let size = size_is c.before.before.before.before.before in
     let offset = offset-is c.before.before.before.before.before in
-    rw (field_is c.before.before.before.before.before.before.before) at c.refuse2.ensures
+    rw (field_is c.before.before.before.before.before.before.before) at c.refuse-then-length-end.ensures
     ∙ sym (pass1 c.before.before ∙ rw (held c.before.before.before, lt-ltb (length_of t) (offset_in s t n + size_in s t n) (omega arith)))
 
-returns-5 : tie.Need-returns-5
+returns-5 : tie.Need-returns-then-length-end-2
 unfolding first_of entry_tests
 returns-5 c =
-    let at-start = c.before.before.before.before.before.before.before.before.before.before.before.before.before in
-    let s = starts_of at-start.args.t.now in
-    let t = at-start.args.t.now in
-    let n = at-start.args.n in
+    let s = starts_of c.args.t.now in
+    let t = c.args.t.now in
+    let n = c.args.n in
     let size = size_is c.before.before.before.before.before.before in
     let offset = offset-is c.before.before.before.before.before.before in
-    rw (field_is c.before.before.before.before.before.before.before.before) at c.refuse3.ensures
+    rw (field_is c.before.before.before.before.before.before.before.before) at c.refuse-then-length-end-2.ensures
     ∙ sym (pass3 c.before.before ∙ rw (held c.before.before.before.before, le-leb (length_of t) (offset_in s t n + size_in s t n) (omega arith)))
 
-returns-6 : tie.Need-returns-6
+returns-6 : tie.Need-returns-then-byte_at-ne0
 unfolding first_of entry_tests
 returns-6 c =
-    let at-if6 = c.before in
-    let at-byte-at = at-if6.before in
-    rw (field_is at-byte-at.before.before.before.before.before.before.before.before) at c.refuse4.ensures
-    ∙ sym (pass4 at-byte-at.before ∙ rw (
-      held at-byte-at.before.before.before.before,
-      ← size_is at-byte-at.before.before.before.before.before.before,
-      ← offset-is at-byte-at.before.before.before.before.before.before,
-      ← at-byte-at.byte_at.ensures,
-      ne_eqb _ _ at-if6.if6.true,
+    rw (field_is c.before.before.before.before.before.before.before.before.before.before) at c.refuse-then-byte_at-ne0.ensures
+    ∙ sym (pass4 c.before.before.before ∙ rw (
+      held c.before.before.before.before.before.before,
+      ← size_is c.before.before.before.before.before.before.before.before,
+      ← offset-is c.before.before.before.before.before.before.before.before,
+      ← c.byte_at.ensures,
+      ne_eqb _ _ c.if-byte_at-ne0.true,
     ))
 
-returns-7 : tie.Need-returns-7
+returns-7 : tie.Need-returns
 unfolding first_of entry_tests
 returns-7 c =
-    let at-string-of = c.before.before.before.before.before.before.before.before.before.before in
     rw (
-      field_is at-string-of,
-      at-string-of.string-of.ensures,
+      field_is c.before.before.before.before.before.before.before.before.before.before,
+      c.string_of-string.ensures,
       size_is c.before.before.before.before.before.before.before.before,
       offset-is c.before.before.before.before.before.before.before.before,
-    ) at c.check-form.ensures
+    ) at c.check_form.ensures
     ∙ sym (pass5 c.before ∙ rw (held c.before.before.before.before.before.before))
 
-entry-start-requires : tie.Need-entry-start-requires
-entry-start-requires c κs = c.before.before.requires.0
+entry-start-requires : tie.Need-entry_start-start-requires
+entry-start-requires c κs = c.requires.0
 
-pub check-entry-spec : {M : Type 1} → statement M
-check-entry-spec = tie.close (tie.spec entry-start-requires returns (search rules) (search rules) (search rules)
+pub check_entry_spec : {M : Type 1} → statement M
+check_entry_spec = tie.close (tie.spec entry-start-requires returns (search rules) (search rules) (search rules)
     (search rules) (search rules) (search rules) returns-2 (search rules) (search rules) (search rules) (search rules)
     (search rules) returns-3 (search rules) returns-4 (search rules) returns-5 (search rules) (search rules)
     (search rules) returns-6 (search rules) returns-7)

@@ -6,15 +6,14 @@ use borrow.Author.Rules.{rules}
 use Rattle.ibft_table.proofs.check_entries.entry_limit.Statement.{statement}
 use Rattle.ibft_table.proofs.check_entries.entry_limit.Tie as tie
 
-returns : tie.Need-returns
+returns : tie.Need-returns-then-words-eq-NAMED_COUNT
 returns c =
-    let s = c.before.before in
-    (omega arith, λ n h. (owner-later n h, s.requires.1 c.if1.true (owner_of n) (owner-later n h)))
+    (omega arith, λ n h. (owner-later n h, c.requires.1 c.if-words-eq-NAMED_COUNT.true (owner_of n) (owner-later n h)))
 
-returns-2 : tie.Need-returns-2
+returns-2 : tie.Need-returns
 returns-2 c =
     let below = c.entries_below.ensures in
-    (below.0, λ n h. let least = below.1 n h in (omega arith, c.before.slot-limit.ensures.2 (owner_of n) least))
+    (below.0, λ n h. let least = below.1 n h in (omega arith, c.slot_limit.ensures.2 (owner_of n) least))
 
-pub entry-limit-spec : {M : Type 1} → statement M
-entry-limit-spec = tie.close (tie.spec returns (search rules) (search rules) returns-2)
+pub entry_limit_spec : {M : Type 1} → statement M
+entry_limit_spec = tie.close (tie.spec returns (search rules) (search rules) returns-2)

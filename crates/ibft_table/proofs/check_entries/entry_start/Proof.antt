@@ -8,19 +8,16 @@ use borrow.Author.Rules.{rules}
 use Rattle.ibft_table.proofs.check_entries.entry_start.Statement.{statement}
 use Rattle.ibft_table.proofs.check_entries.entry_start.Tie as tie
 
-returns : tie.Need-returns
+returns : tie.Need-returns-then-owner-lt-NAMED_COUNT
 returns c =
-    let found = c.before.before in
-    let a = found.before.before.before.args in
-    let owner = found.owner_of.ensures in
-    c.start-at.ensures ∙ ap (start_at a.t.now) owner ∙ sym (starts-named a.t.now (owner_of a.n) (omega (arith, owner)))
+    let a = c.args in
+    let owner = c.owner_of-owner.ensures in
+    c.start_at.ensures ∙ ap (start_at a.t.now) owner ∙ sym (starts-named a.t.now (owner_of a.n) (omega (arith, owner)))
 
-returns-2 : tie.Need-returns-2
+returns-2 : tie.Need-returns
 returns-2 c =
-    let found = c.before.before in
-    let s = found.before.before.before in
-    let owner = found.owner_of.ensures in
-    c.start-in.ensures ∙ ap (start_in s.args.starts.now) owner ∙ s.requires (owner_of s.args.n) (omega (arith, owner))
+    let owner = c.owner_of-owner.ensures in
+    c.start_in.ensures ∙ ap (start_in c.args.starts.now) owner ∙ c.requires (owner_of c.args.n) (omega (arith, owner))
 
-pub entry-start-spec : {M : Type 1} → statement M
-entry-start-spec = tie.close (tie.spec (search rules) (search rules) returns (search rules) (search rules) returns-2)
+pub entry_start_spec : {M : Type 1} → statement M
+entry_start_spec = tie.close (tie.spec (search rules) (search rules) returns (search rules) (search rules) returns-2)

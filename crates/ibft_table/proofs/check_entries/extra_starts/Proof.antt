@@ -10,18 +10,17 @@ use borrow.Author.Rules.{rules}
 use Rattle.ibft_table.proofs.check_entries.extra_starts.Statement.{statement}
 use Rattle.ibft_table.proofs.check_entries.extra_starts.Tie as tie
 
-returns : tie.Need-returns
+returns : tie.Need-returns-then-words-eq-NAMED_COUNT
 unfolding zeros
 returns c =
-    let s = c.before.before in
-    let t = s.args.t.now in
-    (refl, λ k h. start-blank k ∙ sym (starts_none t (words-none t s.args.words s.requires c.if1.true) k h))
+    let t = c.args.t.now in
+    (refl, λ k h. start-blank k ∙ sym (starts_none t (words-none t c.args.words c.requires c.if-words-eq-NAMED_COUNT.true) k h))
 
-returns-2 : tie.Need-returns-2
+returns-2 : tie.Need-returns
 unfolding starts_of
 returns-2 c =
-    let t = c.before.before.before.args.t.now in
-    (ap length c.starts-of.ensures ∙ starts-length t (extra_words t), λ k h. ap (λ (s : List ℕ). start_in s k) c.starts-of.ensures)
+    let t = c.args.t.now in
+    (ap length c.starts_of.ensures ∙ starts-length t (extra_words t), λ k h. ap (λ (s : List ℕ). start_in s k) c.starts_of.ensures)
 
-pub extra-starts-spec : {M : Type 1} → statement M
-extra-starts-spec = tie.close (tie.spec returns (search rules) returns-2)
+pub extra_starts_spec : {M : Type 1} → statement M
+extra_starts_spec = tie.close (tie.spec returns (search rules) returns-2)

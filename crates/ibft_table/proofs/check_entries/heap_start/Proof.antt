@@ -10,32 +10,29 @@ use borrow.Author.Rules.{rules}
 use Rattle.ibft_table.proofs.check_entries.heap_start.Statement.{statement}
 use Rattle.ibft_table.proofs.check_entries.heap_start.Tie as tie
 
-abbrev invariant-loop : tie.invariant-loop
+abbrev invariant-loop : tie.invariant-loop-w
 invariant-loop t words heap₀ w₀ heap w = (named_count ≤ w) × (w ≤ words) × (heap ≡ end_below t w)
 
-abbrev decreases-loop : tie.decreases-loop
+abbrev decreases-loop : tie.decreases-loop-w
 decreases-loop t words heap₀ w₀ heap w = words - w
 
-loop-holds : tie.Need-loop-init invariant-loop decreases-loop
+loop-holds : tie.Need-loop-w-init invariant-loop decreases-loop
 loop-holds c =
-    let least = words-named c.before.before.args.t.now in
-    (search rules, omega arith, c.named-heap.ensures)
+    let least = words-named c.args.t.now in
+    (search rules, omega arith, c.named_heap-heap.ensures)
 
-loop-again : tie.Need-loop-preserved invariant-loop decreases-loop
+loop-again : tie.Need-loop-w-preserved invariant-loop decreases-loop
 unfolding end_below
 loop-again c =
-    let at-end-if-used = c.before in
-    let at-loop = at-end-if-used.before.before in
-    (search rules, search rules, rw (add-one at-loop.loop.w) (c.later.ensures ∙ ap₂ max at-loop.loop.invariant.2 at-end-if-used.end-if-used.ensures))
+    (search rules, search rules, rw (add-one c.loop-w.w) (c.later-heap.ensures ∙ ap₂ max c.loop-w.invariant.2 c.end_if_used.ensures))
 
 returns : tie.Need-returns invariant-loop decreases-loop
 unfolding heap_of
 returns c =
-    let at-loop = c.before in
-    let at-start = at-loop.before.before.before in
-    let t = at-start.args.t.now in
-    let all : at-loop.loop.w ≡ word_count t = omega arith in
-    at-loop.loop.invariant.2 ∙ ap (end_below t) all
+    let t = c.args.t.now in
+    let all : c.loop-w.w ≡ word_count t = omega arith in
+    c.loop-w.invariant.2 ∙ ap (end_below t) all
 
-pub heap-start-spec : {M : Type 1} → statement M
-heap-start-spec = tie.close (tie.spec invariant-loop decreases-loop (search rules) loop-holds (search rules) (search rules) (search rules) (search rules) loop-again returns)
+pub heap_start_spec : {M : Type 1} → statement M
+heap_start_spec = tie.close (tie.spec invariant-loop decreases-loop (search rules) loop-holds (search rules)
+    (search rules) (search rules) (search rules) loop-again returns)

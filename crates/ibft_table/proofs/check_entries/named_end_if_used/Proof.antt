@@ -6,17 +6,15 @@ use borrow.Author.Rules.{rules}
 use Rattle.ibft_table.proofs.check_entries.named_end_if_used.Statement.{statement}
 use Rattle.ibft_table.proofs.check_entries.named_end_if_used.Tie as tie
 
-returns : tie.Need-returns
+returns : tie.Need-returns-then-start_at-eq0
 unfolding used_at
 returns c =
-    let at-start = c.before.before.before in
-    rw (eq-eqb (start_at at-start.args.t.now at-start.args.w) 0 (omega arith))
+    rw (eq-eqb (start_at c.args.t.now c.args.w) 0 (omega arith))
 
-returns-2 : tie.Need-returns-2
+returns-2 : tie.Need-returns-else-start_at-eq0
 unfolding used_at
 returns-2 c =
-    let at-start = c.before.before.before.before in
-    rw (ne_eqb (start_at at-start.args.t.now at-start.args.w) 0 (omega arith)) c.named-end.ensures
+    rw (ne_eqb (start_at c.args.t.now c.args.w) 0 (omega arith)) c.named_end.ensures
 
-pub named-end-if-used-spec : {M : Type 1} → statement M
-named-end-if-used-spec = tie.close (tie.spec (search rules) (search rules) returns returns-2)
+pub named_end_if_used_spec : {M : Type 1} → statement M
+named_end_if_used_spec = tie.close (tie.spec (search rules) (search rules) returns returns-2)

@@ -9,30 +9,27 @@ use borrow.Author.Rules.{rules}
 use Rattle.ibft_table.proofs.check_entries.named_heap.Statement.{statement}
 use Rattle.ibft_table.proofs.check_entries.named_heap.Tie as tie
 
-abbrev invariant-loop : tie.invariant-loop
+abbrev invariant-loop : tie.invariant-loop-w
 invariant-loop t heap₀ w₀ heap w = (w ≤ named_count) × (heap ≡ end_below t w)
 
-abbrev decreases-loop : tie.decreases-loop
+abbrev decreases-loop : tie.decreases-loop-w
 decreases-loop t heap₀ w₀ heap w = named_count - w
 
-loop-holds : tie.Need-loop-init invariant-loop decreases-loop
+loop-holds : tie.Need-loop-w-init invariant-loop decreases-loop
 unfolding end_below
-loop-holds c = (search rules, c.control-end.ensures)
+loop-holds c = (search rules, c.control_end-heap.ensures)
 
-loop-again : tie.Need-loop-preserved invariant-loop decreases-loop
+loop-again : tie.Need-loop-w-preserved invariant-loop decreases-loop
 unfolding end_below
 loop-again c =
-    let at-named-end-if-used = c.before in
-    let at-loop = at-named-end-if-used.before.before in
-    (search rules, rw (add-one at-loop.loop.w) (c.later.ensures ∙ ap₂ max at-loop.loop.invariant.1 at-named-end-if-used.named-end-if-used.ensures))
+    (search rules, rw (add-one c.loop-w.w) (c.later-heap.ensures ∙ ap₂ max c.loop-w.invariant.1 c.named_end_if_used.ensures))
 
 returns : tie.Need-returns invariant-loop decreases-loop
 returns c =
-    let at-loop = c.before in
-    let at-start = at-loop.before.before.before in
-    let t = at-start.args.t.now in
-    let all : at-loop.loop.w ≡ named_count = omega arith in
-    at-loop.loop.invariant.1 ∙ ap (end_below t) all
+    let t = c.args.t.now in
+    let all : c.loop-w.w ≡ named_count = omega arith in
+    c.loop-w.invariant.1 ∙ ap (end_below t) all
 
-pub named-heap-spec : {M : Type 1} → statement M
-named-heap-spec = tie.close (tie.spec invariant-loop decreases-loop (search rules) loop-holds (search rules) (search rules) (search rules) (search rules) loop-again returns)
+pub named_heap_spec : {M : Type 1} → statement M
+named_heap_spec = tie.close (tie.spec invariant-loop decreases-loop (search rules) loop-holds (search rules)
+    (search rules) (search rules) (search rules) loop-again returns)

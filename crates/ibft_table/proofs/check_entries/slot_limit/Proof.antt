@@ -10,28 +10,24 @@ use borrow.Author.Rules.{rules}
 use Rattle.ibft_table.proofs.check_entries.slot_limit.Statement.{statement}
 use Rattle.ibft_table.proofs.check_entries.slot_limit.Tie as tie
 
-abbrev invariant-loop : tie.invariant-loop
+abbrev invariant-loop : tie.invariant-loop-k
 invariant-loop starts k₀ k = (named_count ≤ k) × (k ≤ slot_count) × ((j : ℕ) → k ≤ j → start_in starts j ≡ 0)
 
-abbrev decreases-loop : tie.decreases-loop
+abbrev decreases-loop : tie.decreases-loop-k
 decreases-loop starts k₀ k = k
 
-loop-holds : tie.Need-loop-init invariant-loop decreases-loop
+loop-holds : tie.Need-loop-k-init invariant-loop decreases-loop
 unfolding start_in
 loop-holds c =
-    let s = c.before in
-    (omega arith, omega arith, λ j h. get_or-eq_default s.args.starts.now 0 (omega arith))
+    (omega arith, omega arith, λ j h. get_or-eq_default c.args.starts.now 0 (omega arith))
 
-returns : tie.Need-returns invariant-loop decreases-loop
-returns c = let l = c.before.before.before.loop in (omega arith, omega arith, l.invariant.2)
+returns : tie.Need-returns-then-start_in-ne0 invariant-loop decreases-loop
+returns c = let l = c.loop-k in (omega arith, omega arith, l.invariant.2)
 
-loop-again : tie.Need-loop-preserved invariant-loop decreases-loop
+loop-again : tie.Need-loop-k-preserved invariant-loop decreases-loop
 loop-again c =
-    let at-start-in = c.before in
-    let at-loop = at-start-in.before.before in
-    let at-start = at-loop.before.before in
-    let l = at-loop.loop in
-    let start = at-start-in.start-in in
+    let l = c.loop-k in
+    let start = c.start_in in
     let absent : start.result ≡ 0 = omega arith in (
       omega arith,
       omega arith,
@@ -39,14 +35,14 @@ loop-again c =
           elim (dec_lt j l.k) [
             | yes m ↦
                 let here : j ≡ l.k - 1 = omega arith in
-                ap (start_in at-start.args.starts.now) here ∙ sym start.ensures ∙ absent
+                ap (start_in c.args.starts.now) here ∙ sym start.ensures ∙ absent
             | no m ↦ l.invariant.2 j (omega arith)
           ],
     )
 
-returns-2 : tie.Need-returns-2 invariant-loop decreases-loop
-returns-2 c = let l = c.before.loop in (omega arith, omega arith, l.invariant.2)
+returns-2 : tie.Need-returns invariant-loop decreases-loop
+returns-2 c = let l = c.loop-k in (omega arith, omega arith, l.invariant.2)
 
-pub slot-limit-spec : {M : Type 1} → statement M
-slot-limit-spec = tie.close (tie.spec invariant-loop decreases-loop loop-holds (search rules) (search rules) (search rules) returns
-    (search rules) (search rules) loop-again returns-2)
+pub slot_limit_spec : {M : Type 1} → statement M
+slot_limit_spec = tie.close (tie.spec invariant-loop decreases-loop loop-holds (search rules) (search rules)
+    (search rules) returns (search rules) (search rules) loop-again returns-2)

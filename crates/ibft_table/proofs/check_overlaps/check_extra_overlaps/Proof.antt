@@ -13,48 +13,39 @@ use borrow.Author.Rules.{rules}
 use Rattle.ibft_table.proofs.check_overlaps.check_extra_overlaps.Statement.{statement}
 use Rattle.ibft_table.proofs.check_overlaps.check_extra_overlaps.Tie as tie
 
-abbrev invariant-loop : tie.invariant-loop
+abbrev invariant-loop : tie.invariant-loop-w
 invariant-loop t words w₀ w = (named_count ≤ w) × (w ≤ words)
     × (first_of (gather (overlap_tests t) w (words - w)) ≡ first_of (gather (overlap_tests t) named_count (words - named_count)))
 
-abbrev decreases-loop : tie.decreases-loop
+abbrev decreases-loop : tie.decreases-loop-w
 decreases-loop t words w₀ w = words - w
 
-loop-holds : tie.Need-loop-init invariant-loop decreases-loop
+loop-holds : tie.Need-loop-w-init invariant-loop decreases-loop
 loop-holds c = (search rules, search rules, refl)
 
-returns : tie.Need-returns invariant-loop decreases-loop
+returns : tie.Need-returns-then-extra_overlaps invariant-loop decreases-loop
 unfolding overlap_tests first_of
 returns c =
-    let at-if1 = c.before in
-    let at-extra-overlaps = at-if1.before in
-    let at-loop = at-extra-overlaps.before.before in
-    let at-start = at-loop.before.before in
-    let r = c.refuse-overlap.ensures in
-    let fails = sym at-extra-overlaps.extra-overlaps.ensures ∙ at-if1.if1.true in
-    let l = at-loop.loop in
-    gather-stop (overlap_tests at-start.args.t.now) at-start.args.words l.w (omega arith) _ (r ∙ sym (rw fails)) _ r ∙ l.invariant.2
+    let r = c.refuse_overlap.ensures in
+    let fails = sym c.extra_overlaps.ensures ∙ c.if-extra_overlaps.true in
+    let l = c.loop-w in
+    gather-stop (overlap_tests c.args.t.now) c.args.words l.w (omega arith) _ (r ∙ sym (rw fails)) _ r ∙ l.invariant.2
 
-loop-again : tie.Need-loop-preserved invariant-loop decreases-loop
+loop-again : tie.Need-loop-w-preserved invariant-loop decreases-loop
 unfolding overlap_tests first_of
 loop-again c =
-    let at-extra-overlaps = c.before in
-    let at-loop = at-extra-overlaps.before.before in
-    let at-start = at-loop.before.before in
-    let passes = sym at-extra-overlaps.extra-overlaps.ensures ∙ c.if1.false in
-    let l = at-loop.loop in (
+    let passes = sym c.extra_overlaps.ensures ∙ c.if-extra_overlaps.false in
+    let l = c.loop-w in (
       search rules,
       search rules,
-      gather-go (overlap_tests at-start.args.t.now) at-start.args.words l.w
+      gather-go (overlap_tests c.args.t.now) c.args.words l.w
           (omega arith) Accepted (sym (rw passes)) refl ∙ l.invariant.2,
     )
 
-returns-2 : tie.Need-returns-2 invariant-loop decreases-loop
+returns-2 : tie.Need-returns invariant-loop decreases-loop
 returns-2 c =
-    let at-loop = c.before in
-    let at-start = at-loop.before.before in
-    sym (gather-end (overlap_tests at-start.args.t.now) at-start.args.words at-loop.loop.w (omega arith)) ∙ at-loop.loop.invariant.2
+    sym (gather-end (overlap_tests c.args.t.now) c.args.words c.loop-w.w (omega arith)) ∙ c.loop-w.invariant.2
 
-pub check-extra-overlaps-spec : {M : Type 1} → statement M
-check-extra-overlaps-spec = tie.close (tie.spec invariant-loop decreases-loop loop-holds (search rules) (search rules) returns
-    (search rules) (search rules) loop-again returns-2)
+pub check_extra_overlaps_spec : {M : Type 1} → statement M
+check_extra_overlaps_spec = tie.close (tie.spec invariant-loop decreases-loop loop-holds (search rules) (search rules)
+    returns (search rules) (search rules) loop-again returns-2)

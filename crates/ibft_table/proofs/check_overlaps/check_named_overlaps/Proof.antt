@@ -12,38 +12,31 @@ use borrow.Author.Rules.{rules}
 use Rattle.ibft_table.proofs.check_overlaps.check_named_overlaps.Statement.{statement}
 use Rattle.ibft_table.proofs.check_overlaps.check_named_overlaps.Tie as tie
 
-abbrev invariant-loop : tie.invariant-loop
+abbrev invariant-loop : tie.invariant-loop-w
 invariant-loop t w₀ w = (w ≤ named_count) × (first_of (gather (overlap_tests t) w (named_count - w)) ≡ first_of (gather (overlap_tests t) 0 named_count))
 
-abbrev decreases-loop : tie.decreases-loop
+abbrev decreases-loop : tie.decreases-loop-w
 decreases-loop t w₀ w = named_count - w
 
-returns : tie.Need-returns invariant-loop decreases-loop
+returns : tie.Need-returns-then-named_overlaps invariant-loop decreases-loop
 unfolding overlap_tests first_of
 returns c =
-    let at-if1 = c.before in
-    let at-named-overlaps = at-if1.before in
-    let at-loop = at-named-overlaps.before.before in
-    let at-start = at-loop.before.before in
-    let r = c.refuse-overlap.ensures in
-    let fails = sym at-named-overlaps.named-overlaps.ensures ∙ at-if1.if1.true in
-    let l = at-loop.loop in
-    gather-stop (overlap_tests at-start.args.t.now) (named_count) l.w (omega arith) _ (r ∙ sym (rw fails)) _ r ∙ l.invariant.1
+    let r = c.refuse_overlap.ensures in
+    let fails = sym c.named_overlaps.ensures ∙ c.if-named_overlaps.true in
+    let l = c.loop-w in
+    gather-stop (overlap_tests c.args.t.now) (named_count) l.w (omega arith) _ (r ∙ sym (rw fails)) _ r ∙ l.invariant.1
 
-loop-again : tie.Need-loop-preserved invariant-loop decreases-loop
+loop-again : tie.Need-loop-w-preserved invariant-loop decreases-loop
 unfolding overlap_tests first_of
 loop-again c =
-    let at-named-overlaps = c.before in
-    let at-loop = at-named-overlaps.before.before in
-    let at-start = at-loop.before.before in
-    let passes = sym at-named-overlaps.named-overlaps.ensures ∙ c.if1.false in
-    let l = at-loop.loop in
-    (search rules, gather-go (overlap_tests at-start.args.t.now) (named_count) l.w (omega arith) Accepted (sym (rw passes)) refl ∙ l.invariant.1)
+    let passes = sym c.named_overlaps.ensures ∙ c.if-named_overlaps.false in
+    let l = c.loop-w in
+    (search rules, gather-go (overlap_tests c.args.t.now) (named_count) l.w (omega arith) Accepted (sym (rw passes)) refl ∙ l.invariant.1)
 
-returns-2 : tie.Need-returns-2 invariant-loop decreases-loop
-returns-2 c = sym (gather-end (overlap_tests c.before.before.before.args.t.now) (named_count) c.before.loop.w
-    (omega arith)) ∙ c.before.loop.invariant.1
+returns-2 : tie.Need-returns invariant-loop decreases-loop
+returns-2 c = sym (gather-end (overlap_tests c.args.t.now) (named_count) c.loop-w.w
+    (omega arith)) ∙ c.loop-w.invariant.1
 
-pub check-named-overlaps-spec : {M : Type 1} → statement M
-check-named-overlaps-spec = tie.close (tie.spec invariant-loop decreases-loop (search rules) (search rules) (search rules) returns
-    (search rules) (search rules) loop-again returns-2)
+pub check_named_overlaps_spec : {M : Type 1} → statement M
+check_named_overlaps_spec = tie.close (tie.spec invariant-loop decreases-loop (search rules) (search rules)
+    (search rules) returns (search rules) (search rules) loop-again returns-2)

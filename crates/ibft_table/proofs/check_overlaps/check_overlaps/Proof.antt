@@ -13,28 +13,24 @@ use borrow.Author.Rules.{rules}
 use Rattle.ibft_table.proofs.check_overlaps.check_overlaps.Statement.{statement}
 use Rattle.ibft_table.proofs.check_overlaps.check_overlaps.Tie as tie
 
-returns : tie.Need-returns
+returns : tie.Need-returns-in-Refused
 returns c =
-    let at-check-named-overlaps = c.before.before in
-    let at-start = at-check-named-overlaps.before.before in
-    let t = at-start.args.t.now in
-    split-stop (overlap_tests t) named_count (word_count t) (words-named t) _ at-check-named-overlaps.check-named-overlaps.ensures _ c.enum_told.given.1
+    let t = c.args.t.now in
+    split-stop (overlap_tests t) named_count (word_count t) (words-named t) _ c.check_named_overlaps-v.ensures _ c.in-Refused.is
 
-check-extra-overlaps-requires : tie.Need-check-extra-overlaps-requires
+check-extra-overlaps-requires : tie.Need-check_extra_overlaps-requires
 check-extra-overlaps-requires c κs =
-    let least = words-named c.before.before.before.before.args.t.now in
+    let least = words-named c.args.t.now in
     omega arith
 
-returns-2 : tie.Need-returns-2
+returns-2 : tie.Need-returns
 returns-2 c =
-    let at-enum-told2 = c.before in
-    let at-check-named-overlaps = at-enum-told2.before.before in
-    let s = at-check-named-overlaps.before.before in
-    let t = s.args.t.now in
-    c.check-extra-overlaps.ensures
-    ∙ ap (λ (n : ℕ). first_of (gather (overlap_tests t) named_count (n - named_count))) s.requires
+    let t = c.args.t.now in
+    c.check_extra_overlaps.ensures
+    ∙ ap (λ (n : ℕ). first_of (gather (overlap_tests t) named_count (n - named_count))) c.requires
     ∙ split-go (overlap_tests t) named_count (word_count t) (words-named t) _
-    at-check-named-overlaps.check-named-overlaps.ensures at-enum-told2.enum-told2.given.1
+    c.check_named_overlaps-v.ensures c.in_default.is
 
-pub check-overlaps-spec : {M : Type 1} → statement M
-check-overlaps-spec = tie.close (tie.spec (search rules) (search rules) returns (search rules) check-extra-overlaps-requires returns-2)
+pub check_overlaps_spec : {M : Type 1} → statement M
+check_overlaps_spec = tie.close (tie.spec (search rules) (search rules) returns (search rules)
+    check-extra-overlaps-requires returns-2)

@@ -16,10 +16,10 @@ use borrow.Author.Rules.{rules}
 use Rattle.ibft_table.proofs.check_overlaps.extra_overlaps.Statement.{statement}
 use Rattle.ibft_table.proofs.check_overlaps.extra_overlaps.Tie as tie
 
-abbrev invariant-loop : tie.invariant-loop
+abbrev invariant-loop : tie.invariant-loop-v
 invariant-loop t w start end v₀ v = (v ≤ w) × ((j : ℕ) → j < v → overlap t w j ≡ false)
 
-abbrev decreases-loop : tie.decreases-loop
+abbrev decreases-loop : tie.decreases-loop-v
 decreases-loop t w start end v₀ v = w - v
 
 -- word w is used, so what is left of the test is what the calls answer
@@ -30,71 +30,57 @@ met-is : (t : List ℕ) (w v : ℕ) → (start_at t w ≡ 0 → ⊥) → met t (
 unfolding overlap used_at
 met-is t w v used = rw (ne_eqb (start_at t w) 0 used)
 
-named-is : (c : tie.After-shares-named invariant-loop decreases-loop) → c.shares-named.result
-    ≡ any named_count (overlap c.before.before.before.before.before.args.t.now
-    c.before.before.before.before.before.args.w)
+named-is : (c : tie.After-shares_named invariant-loop decreases-loop) → c.shares_named.result
+    ≡ any named_count (overlap c.args.t.now
+    c.args.w)
 named-is c =
-    let at-end-at = c.before in
-    let at-start-at = at-end-at.before.before in
-    let at-start = at-start-at.before.before in
-    let a = at-start.args in
-    let start = at-start-at.start-at in
-    c.shares-named.ensures
-    ∙ any_same _ _ _ (λ v h. rw (start.ensures, at-end-at.end-at.ensures) (met-is a.t.now a.w v (omega arith)))
+    let a = c.args in
+    let start = c.start_at-start in
+    c.shares_named.ensures
+    ∙ any_same _ _ _ (λ v h. rw (start.ensures, c.end_at-end.ensures) (met-is a.t.now a.w v (omega arith)))
 
 shares-is : (c : tie.After-shares invariant-loop decreases-loop) → c.shares.result
-    ≡ overlap c.before.before.before.before.before.before.before.before.before.before.before.args.t.now
-    c.before.before.before.before.before.before.before.before.before.before.before.args.w
-    c.before.before.before.before.loop.v
+    ≡ overlap c.args.t.now
+    c.args.w
+    c.loop-v.v
 unfolding used_at
 shares-is c =
-    let at-end-at2 = c.before in
-    let at-start-at2 = at-end-at2.before in
-    let at-loop = at-start-at2.before.before in
-    let at-end-at = at-loop.before.before.before in
-    let at-start-at = at-end-at.before.before in
-    let at-start = at-start-at.before.before in
-    let a = at-start.args in
-    let start = at-start-at.start-at in
-    let end = at-end-at.end-at in
+    let a = c.args in
+    let start = c.start_at-start in
+    let end = c.end_at-end in
     c.shares.ensures
-    ∙ rw (at-start-at2.start-at2.ensures, at-end-at2.end-at2.ensures, start.ensures, end.ensures)
-    (met-is a.t.now a.w at-loop.loop.v (omega arith))
+    ∙ rw (c.start_at.ensures, c.end_at.ensures, start.ensures, end.ensures)
+    (met-is a.t.now a.w c.loop-v.v (omega arith))
 
-returns : tie.Need-returns invariant-loop decreases-loop
+returns : tie.Need-returns-then-start-eq0 invariant-loop decreases-loop
 unfolding overlap used_at
 returns c =
-    let a = c.before.before.before.args in
+    let a = c.args in
     sym (any-no a.w (overlap a.t.now a.w) (λ j h. simp (eq-eqb (start_at a.t.now a.w) 0 (omega arith), and-false)))
 
-returns-2 : tie.Need-returns-2 invariant-loop decreases-loop
+returns-2 : tie.Need-returns-then-shares_named invariant-loop decreases-loop
 returns-2 c =
-    let at-start = c.before.before.before.before.before.before in
-    let a = at-start.args in
-    let found = any-first named_count (overlap a.t.now a.w) (sym (named-is c.before) ∙ c.if2.true) in
+    let a = c.args in
+    let found = any-first named_count (overlap a.t.now a.w) (sym (named-is c.before) ∙ c.if-shares_named.true) in
     sym (any-yes a.w (overlap a.t.now a.w) (first named_count (overlap a.t.now a.w)) (omega (arith, found.0)) found.1)
 
-loop-holds : tie.Need-loop-init invariant-loop decreases-loop
+loop-holds : tie.Need-loop-v-init invariant-loop decreases-loop
 loop-holds c =
-    let at-start = c.before.before.before.before.before.before in
-    let a = at-start.args in
-    (search rules, any_none named_count (overlap a.t.now a.w) (sym (named-is c.before) ∙ c.if2.false))
+    let a = c.args in
+    (search rules, any_none named_count (overlap a.t.now a.w) (sym (named-is c.before) ∙ c.if-shares_named.false))
 
-returns-3 : tie.Need-returns-3 invariant-loop decreases-loop
+returns-3 : tie.Need-returns-then-shares invariant-loop decreases-loop
 returns-3 c =
-    let at-loop-test = c.before.before.before.before in
-    let at-loop = at-loop-test.before in
-    sym (any-yes _ _ at-loop.loop.v at-loop-test.loop-test.true (sym (shares-is c.before) ∙ c.if3.true))
+    sym (any-yes _ _ c.loop-v.v c.loop-v-test.true (sym (shares-is c.before) ∙ c.if-shares.true))
 
-loop-again : tie.Need-loop-preserved invariant-loop decreases-loop
+loop-again : tie.Need-loop-v-preserved invariant-loop decreases-loop
 loop-again c =
-    let at-loop = c.before.before.before.before.before in
-    (search rules, below_more _ _ at-loop.loop.invariant.1 (sym (shares-is c.before) ∙ c.if3.false))
+    (search rules, below_more _ _ c.loop-v.invariant.1 (sym (shares-is c.before) ∙ c.if-shares.false))
 
-returns-4 : tie.Need-returns-4 invariant-loop decreases-loop
-returns-4 c = sym (any-no _ _ (λ j h. c.before.loop.invariant.1 j (omega arith)))
+returns-4 : tie.Need-returns invariant-loop decreases-loop
+returns-4 c = sym (any-no _ _ (λ j h. c.loop-v.invariant.1 j (omega arith)))
 
-pub extra-overlaps-spec : {M : Type 1} → statement M
-extra-overlaps-spec = tie.close (tie.spec invariant-loop decreases-loop (search rules) (search rules) returns (search rules)
-    (search rules) returns-2 loop-holds (search rules) (search rules) (search rules) (search rules) returns-3 (search rules)
-    (search rules) loop-again returns-4)
+pub extra_overlaps_spec : {M : Type 1} → statement M
+extra_overlaps_spec = tie.close (tie.spec invariant-loop decreases-loop (search rules) (search rules) returns
+    (search rules) (search rules) returns-2 loop-holds (search rules) (search rules) (search rules) (search rules)
+    returns-3 (search rules) (search rules) loop-again returns-4)

@@ -11,21 +11,19 @@ use borrow.Author.Rules.{rules}
 use Rattle.ibft_table.proofs.check_overlaps.named_overlaps.Statement.{statement}
 use Rattle.ibft_table.proofs.check_overlaps.named_overlaps.Tie as tie
 
-returns : tie.Need-returns
+returns : tie.Need-returns-then-start-eq0
 unfolding overlap used_at
 returns c =
-    let a = c.before.before.before.args in
+    let a = c.args in
     sym (any-no a.w (overlap a.t.now a.w) (λ j h. simp (eq-eqb (start_at a.t.now a.w) 0 (omega arith), and-false)))
 
-returns-2 : tie.Need-returns-2
+returns-2 : tie.Need-returns
 unfolding overlap used_at
 returns-2 c =
-    let at-named-end = c.before in
-    let at-start-at = at-named-end.before.before in
-    let at-start = at-start-at.before.before in
-    let a = at-start.args in
-    c.shares-named.ensures
-    ∙ any_same _ _ _ (λ v h. rw (at-start-at.start-at.ensures, at-named-end.named-end.ensures, ne_eqb (start_at a.t.now a.w) 0 (omega arith)))
+    let a = c.args in
+    c.shares_named.ensures
+    ∙ any_same _ _ _ (λ v h. rw (c.start_at-start.ensures, c.named_end.ensures, ne_eqb (start_at a.t.now a.w) 0 (omega arith)))
 
-pub named-overlaps-spec : {M : Type 1} → statement M
-named-overlaps-spec = tie.close (tie.spec (search rules) (search rules) returns (search rules) (search rules) returns-2)
+pub named_overlaps_spec : {M : Type 1} → statement M
+named_overlaps_spec = tie.close (tie.spec (search rules) (search rules) returns (search rules) (search rules)
+    returns-2)

@@ -4,7 +4,7 @@ use Rattle.ibft_table.proofs.check_overlaps.refuse_overlap.Statement.{statement}
 use Rattle.ibft_table.proofs.check_overlaps.refuse_overlap.Tie as tie
 
 returns : tie.Need-returns
-returns c = rw c.before.word_at.ensures at c.refuse.ensures
+returns c = rw c.word_at.ensures at c.refuse.ensures
 
-pub refuse-overlap-spec : {M : Type 1} → statement M
-refuse-overlap-spec = tie.close (tie.spec (search rules) (search rules) (search rules) returns)
+pub refuse_overlap_spec : {M : Type 1} → statement M
+refuse_overlap_spec = tie.close (tie.spec (search rules) (search rules) (search rules) returns)

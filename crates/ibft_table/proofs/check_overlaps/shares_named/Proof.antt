@@ -16,45 +16,38 @@ use Rattle.ibft_table.proofs.check_overlaps.shares_named.Tie as tie
 abbrev met : List ℕ → ℕ → ℕ → ℕ → Bool
 met t start end v = used_at t v && (ltb (start_at t v) end && ltb start (end_at t v))
 
-abbrev invariant-loop : tie.invariant-loop
+abbrev invariant-loop : tie.invariant-loop-v
 invariant-loop t start end w v₀ v = (v ≤ w) × ((j : ℕ) → j < v → met t start end j ≡ false)
 
-abbrev decreases-loop : tie.decreases-loop
+abbrev decreases-loop : tie.decreases-loop-v
 decreases-loop t start end w v₀ v = w - v
 
 shares-is : (c : tie.After-shares invariant-loop decreases-loop) → c.shares.result
-    ≡ met c.before.before.before.before.before.before.args.t.now
-    c.before.before.before.before.before.before.args.start
-    c.before.before.before.before.before.before.args.end c.before.before.before.before.loop.v
+    ≡ met c.args.t.now
+    c.args.start
+    c.args.end c.loop-v.v
 unfolding used_at
 shares-is c =
-    let at-named-end = c.before in
-    let at-start-at = at-named-end.before in
-    let at-loop = at-start-at.before.before in
-    let at-start = at-loop.before.before in
-    let t = at-start.args.t.now in
-    let v = at-loop.loop.v in
-    let start : at-start-at.start-at.result ≡ start_at t v = at-start-at.start-at.ensures in
-    let end : at-named-end.named-end.result ≡ end_at t v = at-named-end.named-end.ensures in
+    let t = c.args.t.now in
+    let v = c.loop-v.v in
+    let start : c.start_at.result ≡ start_at t v = c.start_at.ensures in
+    let end : c.named_end.result ≡ end_at t v = c.named_end.ensures in
     c.shares.ensures ∙ rw (start, end)
 
-loop-holds : tie.Need-loop-init invariant-loop decreases-loop
+loop-holds : tie.Need-loop-v-init invariant-loop decreases-loop
 loop-holds c = (search rules, λ j h. absurd (omega arith))
 
-returns : tie.Need-returns invariant-loop decreases-loop
+returns : tie.Need-returns-then-shares invariant-loop decreases-loop
 returns c =
-    let at-loop-test = c.before.before.before.before in
-    let at-loop = at-loop-test.before in
-    sym (any-yes _ _ at-loop.loop.v at-loop-test.loop-test.true (sym (shares-is c.before) ∙ c.if1.true))
+    sym (any-yes _ _ c.loop-v.v c.loop-v-test.true (sym (shares-is c.before) ∙ c.if-shares.true))
 
-loop-again : tie.Need-loop-preserved invariant-loop decreases-loop
+loop-again : tie.Need-loop-v-preserved invariant-loop decreases-loop
 loop-again c =
-    let at-loop = c.before.before.before.before.before in
-    (search rules, below_more _ _ at-loop.loop.invariant.1 (sym (shares-is c.before) ∙ c.if1.false))
+    (search rules, below_more _ _ c.loop-v.invariant.1 (sym (shares-is c.before) ∙ c.if-shares.false))
 
-returns-2 : tie.Need-returns-2 invariant-loop decreases-loop
-returns-2 c = sym (any-no _ _ (λ j h. c.before.loop.invariant.1 j (omega arith)))
+returns-2 : tie.Need-returns invariant-loop decreases-loop
+returns-2 c = sym (any-no _ _ (λ j h. c.loop-v.invariant.1 j (omega arith)))
 
-pub shares-named-spec : {M : Type 1} → statement M
-shares-named-spec = tie.close (tie.spec invariant-loop decreases-loop loop-holds (search rules) (search rules) (search rules)
-    (search rules) returns (search rules) (search rules) loop-again returns-2)
+pub shares_named_spec : {M : Type 1} → statement M
+shares_named_spec = tie.close (tie.spec invariant-loop decreases-loop loop-holds (search rules) (search rules)
+    (search rules) (search rules) returns (search rules) (search rules) loop-again returns-2)

@@ -24,183 +24,161 @@ use Rattle.ibft_table.proofs.check_words.check_named.Tie as tie
 abbrev tests : tie.Start → List Test
 tests s = word_tests s.args.t.now s.args.w
 
-here : (c : tie.Else1) → used_at c.before.before.before.args.t.now c.before.before.before.args.w ≡ true
+here : (c : tie.Else-start-eq0) → used_at c.args.t.now c.args.w ≡ true
 unfolding used_at
 here c =
-    let at-start = c.before.before.before in
-    rw (ne_eqb (start_at at-start.args.t.now at-start.args.w) 0 (omega arith))
+    rw (ne_eqb (start_at c.args.t.now c.args.w) 0 (omega arith))
 
-named : (c : tie.Else1) → ltb c.before.before.before.args.w named_count ≡ true
-named c = lt-ltb c.before.before.before.args.w 5 (omega arith)
+named : (c : tie.Else-start-eq0) → ltb c.args.w named_count ≡ true
+named c = lt-ltb c.args.w 5 (omega arith)
 
 -- what the calls answer, as the tests have it
-kind-is : (c : tie.After-kind-of) → c.kind-of.result
-    ≡ shape_of (kind_at c.before.before.before.before.args.t.now c.before.before.before.before.args.w)
+kind-is : (c : tie.After-kind_of-kind) → c.kind_of-kind.result
+    ≡ shape_of (kind_at c.args.t.now c.args.w)
 kind-is c =
-    let at-start = c.before.before.before.before in
-    c.kind-of.ensures ∙ ap shape_of (sym (kind-named at-start.args.t.now at-start.args.w (omega arith)))
+    c.kind_of-kind.ensures ∙ ap shape_of (sym (kind-named c.args.t.now c.args.w (omega arith)))
 
-index_is : (c : tie.After-index-of) → c.index-of.result
-    ≡ index_at c.before.before.before.before.before.before.before.args.t.now
-    c.before.before.before.before.before.before.before.args.w
+index_is : (c : tie.After-index_of) → c.index_of.result
+    ≡ index_at c.args.t.now
+    c.args.w
 index_is c =
-    let at-start = c.before.before.before.before.before.before.before in
-    c.index-of.ensures ∙ sym (index-named at-start.args.t.now at-start.args.w (omega arith))
+    c.index_of.ensures ∙ sym (index-named c.args.t.now c.args.w (omega arith))
 
 misplaced-is : (c : tie.After-misplaced) → c.misplaced.result
-    ≡ misplaced c.before.before.before.before.before.args.t.now
-    c.before.before.before.before.before.args.w
-    (kind_at c.before.before.before.before.before.args.t.now
-    c.before.before.before.before.before.args.w).length
+    ≡ misplaced c.args.t.now
+    c.args.w
+    (kind_at c.args.t.now
+    c.args.w).length
 unfolding misplaced
 misplaced-is c =
-    let at-start-at = c.before.before.before in
-    let at-start = at-start-at.before.before in
-    c.misplaced.ensures ∙ rw (at-start-at.start-at.ensures, kind-is c.before, at-start.requires.0, at-start.requires.1)
+    c.misplaced.ensures ∙ rw (c.start_at-start.ensures, kind-is c.before, c.requires.0, c.requires.1)
 
 alien-is : (c : tie.After-alien) → c.alien.result
-    ≡ alien c.before.before.before.before.before.before.before.before.args.t.now
-    (start_at c.before.before.before.before.before.before.before.before.args.t.now
-    c.before.before.before.before.before.before.before.before.args.w)
-    (kind_at c.before.before.before.before.before.before.before.before.args.t.now
-    c.before.before.before.before.before.before.before.before.args.w)
-    (index_at c.before.before.before.before.before.before.before.before.args.t.now
-    c.before.before.before.before.before.before.before.before.args.w)
+    ≡ alien c.args.t.now
+    (start_at c.args.t.now
+    c.args.w)
+    (kind_at c.args.t.now
+    c.args.w)
+    (index_at c.args.t.now
+    c.args.w)
 alien-is c =
-    let at-start-at = c.before.before.before.before.before.before in
-    let at-start = at-start-at.before.before in
-    c.alien.ensures (kind_at at-start.args.t.now at-start.args.w) (kind-is c.before.before.before.before)
-    ∙ rw (at-start-at.start-at.ensures, index_is c.before)
+    c.alien.ensures (kind_at c.args.t.now c.args.w) (kind-is c.before.before.before.before)
+    ∙ rw (c.start_at-start.ensures, index_is c.before)
 
-reserved-is : (c : tie.After-byte-at) → differs (bit_and c.byte_at.result c.before.before.before.before.before.before.kind-of.result.reserved) 0
-    ≡ reserved_set (byte c.before.before.before.before.before.before.before.before.before.before.args.t.now
-    (start_at c.before.before.before.before.before.before.before.before.before.before.args.t.now
-    c.before.before.before.before.before.before.before.before.before.before.args.w + 5))
-    (kind_at c.before.before.before.before.before.before.before.before.before.before.args.t.now
-    c.before.before.before.before.before.before.before.before.before.before.args.w)
+reserved-is : (c : tie.After-byte_at) → differs (bit_and c.byte_at.result c.kind_of-kind.result.reserved) 0
+    ≡ reserved_set (byte c.args.t.now
+    (start_at c.args.t.now
+    c.args.w + 5))
+    (kind_at c.args.t.now
+    c.args.w)
 unfolding reserved_set
 reserved-is c =
-    let at-start-at = c.before.before.before.before.before.before.before.before in
-    rw (c.byte_at.ensures, at-start-at.start-at.ensures, kind-is c.before.before.before.before.before.before)
+    rw (c.byte_at.ensures, c.start_at-start.ensures, kind-is c.before.before.before.before.before.before)
 
-chap-is : (c : tie.After-kind-of) → c.kind-of.result.chap
-    ≡ (kind_at c.before.before.before.before.args.t.now c.before.before.before.before.args.w).chap
+chap-is : (c : tie.After-kind_of-kind) → c.kind_of-kind.result.chap
+    ≡ (kind_at c.args.t.now c.args.w).chap
 chap-is c = ap (λ (s : Shape). s.chap) (kind-is c)
 
-pass1 : (c : tie.Else2) → Passed (tests c.before.before.before.before.before.before) 1
+pass1 : (c : tie.Else-misplaced) → Passed (tests c.before.before.before.before.before.before) 1
 unfolding first_of word_tests named_tests flag_tests
-pass1 c = rw (here c.before.before.before, named c.before.before.before, sym (misplaced-is c.before) ∙ c.if2.false)
+pass1 c = rw (here c.before.before.before, named c.before.before.before, sym (misplaced-is c.before) ∙ c.if-misplaced.false)
 
-pass2 : (c : tie.Else3) → Passed (tests c.before.before.before.before.before.before.before.before.before) 2
+pass2 : (c : tie.Else-alien) → Passed (tests c.before.before.before.before.before.before.before.before.before) 2
 unfolding first_of word_tests named_tests flag_tests
 pass2 c = pass1 c.before.before.before
     ∙ rw (
       here c.before.before.before.before.before.before,
       named c.before.before.before.before.before.before,
-      sym (alien-is c.before) ∙ c.if3.false,
+      sym (alien-is c.before) ∙ c.if-alien.false,
     )
 
-pass3 : (c : tie.Else4) → Passed (tests c.before.before.before.before.before.before.before.before.before.before.before.before) 3
+pass3 : (c : tie.Else-byte_at-kind-ne0) → Passed (tests c.before.before.before.before.before.before.before.before.before.before.before.before) 3
 unfolding first_of word_tests named_tests flag_tests
 pass3 c = pass2 c.before.before.before
     ∙ rw (
       here c.before.before.before.before.before.before.before.before.before,
       named c.before.before.before.before.before.before.before.before.before,
       ← reserved-is c.before.before,
-      c.if4.false,
+      c.if-byte_at-kind-ne0.false,
     )
 
-returns : tie.Need-returns
+returns : tie.Need-returns-then-start-eq0
 unfolding first_of word_tests used_at
 returns c =
-    let at-start = c.before.before.before in
-    sym (rw (eq-eqb (start_at at-start.args.t.now at-start.args.w) 0 (omega arith)))
+    sym (rw (eq-eqb (start_at c.args.t.now c.args.w) 0 (omega arith)))
 
-returns-2 : tie.Need-returns-2
+returns-2 : tie.Need-returns-then-misplaced
 unfolding first_of word_tests named_tests flag_tests
 returns-2 c =
-    let at-word-at = c.before in
-    let at-if2 = at-word-at.before in
-    rw at-word-at.word_at.ensures at c.refuse.ensures
+    rw c.word_at.ensures at c.refuse.ensures
     ∙ sym (rw (
-      here at-if2.before.before.before,
-      named at-if2.before.before.before,
-      sym (misplaced-is at-if2.before) ∙ at-if2.if2.true,
+      here c.before.before.before.before.before,
+      named c.before.before.before.before.before,
+      sym (misplaced-is c.before.before.before) ∙ c.if-misplaced.true,
     ))
 
-returns-3 : tie.Need-returns-3
+returns-3 : tie.Need-returns-then-alien
 unfolding first_of word_tests named_tests flag_tests
 returns-3 c =
-    let at-if3 = c.before in
-    let at-start-at = at-if3.before.before.before.before.before.before.before in
-    rw at-start-at.start-at.ensures at c.refuse2.ensures
-    ∙ sym (pass1 at-if3.before.before.before
+    rw c.start_at-start.ensures at c.refuse-then-alien.ensures
+    ∙ sym (pass1 c.before.before.before.before
     ∙ rw (
-      here at-if3.before.before.before.before.before.before,
-      named at-if3.before.before.before.before.before.before,
-      sym (alien-is at-if3.before) ∙ at-if3.if3.true,
+      here c.before.before.before.before.before.before.before,
+      named c.before.before.before.before.before.before.before,
+      sym (alien-is c.before.before) ∙ c.if-alien.true,
     ))
 
-returns-4 : tie.Need-returns-4
+returns-4 : tie.Need-returns-then-byte_at-kind-ne0
 unfolding first_of word_tests named_tests flag_tests
 returns-4 c =
-    let at-if4 = c.before in
-    let at-start-at = at-if4.before.before.before.before.before.before.before.before.before.before in
-    rw at-start-at.start-at.ensures at c.refuse3.ensures
-    ∙ sym (pass2 at-if4.before.before.before
+    rw c.start_at-start.ensures at c.refuse-then-byte_at-kind-ne0.ensures
+    ∙ sym (pass2 c.before.before.before.before
     ∙ rw (
-      here at-if4.before.before.before.before.before.before.before.before.before,
-      named at-if4.before.before.before.before.before.before.before.before.before,
-      ← reserved-is at-if4.before.before,
-      ne_eqb _ _ at-if4.if4.true,
+      here c.before.before.before.before.before.before.before.before.before.before,
+      named c.before.before.before.before.before.before.before.before.before.before,
+      ← reserved-is c.before.before.before,
+      ne_eqb _ _ c.if-byte_at-kind-ne0.true,
     ))
 
-returns-5 : tie.Need-returns-5
+returns-5 : tie.Need-returns-then-not-kind
 unfolding first_of word_tests named_tests flag_tests
 returns-5 c = sym (pass3 c.before.before
     ∙ rw (
       here c.before.before.before.before.before.before.before.before.before.before.before,
       named c.before.before.before.before.before.before.before.before.before.before.before,
       sym (chap-is c.before.before.before.before.before.before.before.before.before.before)
-          ∙ not-true _ c.if5.true,
+          ∙ not-true _ c.if-not-kind.true,
     ))
 
-returns-6 : tie.Need-returns-6
+returns-6 : tie.Need-returns-then-byte_at-gt-CHAP_LAST
 unfolding first_of word_tests named_tests flag_tests
 returns-6 c =
-    let at-if6 = c.before in
-    let at-byte-at2 = at-if6.before in
-    let at-if5 = at-byte-at2.before in
-    let at-start-at = at-if5.before.before.before.before.before.before.before.before.before.before.before.before in
-    rw at-start-at.start-at.ensures at c.refuse4.ensures
-    ∙ sym (pass3 at-if5.before.before ∙ rw (
-      here at-if5.before.before.before.before.before.before.before.before.before.before.before,
-      named at-if5.before.before.before.before.before.before.before.before.before.before.before,
-      sym (chap-is at-if5.before.before.before.before.before.before.before.before.before.before)
-          ∙ not-false _ at-if5.if5.false,
-      ← at-start-at.start-at.ensures,
-      ← at-byte-at2.byte-at2.ensures,
-      lt-ltb _ _ at-if6.if6.true,
+    rw c.start_at-start.ensures at c.refuse-then-byte_at-gt-CHAP_LAST.ensures
+    ∙ sym (pass3 c.before.before.before.before.before ∙ rw (
+      here c.before.before.before.before.before.before.before.before.before.before.before.before.before.before,
+      named c.before.before.before.before.before.before.before.before.before.before.before.before.before.before,
+      sym (chap-is c.before.before.before.before.before.before.before.before.before.before.before.before.before)
+          ∙ not-false _ c.if-not-kind.false,
+      ← c.start_at-start.ensures,
+      ← c.byte_at-2.ensures,
+      lt-ltb _ _ c.if-byte_at-gt-CHAP_LAST.true,
     ))
 
-returns-7 : tie.Need-returns-7
+returns-7 : tie.Need-returns
 unfolding first_of word_tests named_tests flag_tests
 returns-7 c =
-    let at-byte-at2 = c.before in
-    let at-if5 = at-byte-at2.before in
-    let at-start-at = at-if5.before.before.before.before.before.before.before.before.before.before.before.before in
-    sym (pass3 at-if5.before.before ∙ rw (
-      here at-if5.before.before.before.before.before.before.before.before.before.before.before,
-      named at-if5.before.before.before.before.before.before.before.before.before.before.before,
-      sym (chap-is at-if5.before.before.before.before.before.before.before.before.before.before)
-          ∙ not-false _ at-if5.if5.false,
-      ← at-start-at.start-at.ensures,
-      ← at-byte-at2.byte-at2.ensures,
-      le-ltb _ _ c.if6.false,
+    sym (pass3 c.before.before.before.before ∙ rw (
+      here c.before.before.before.before.before.before.before.before.before.before.before.before.before,
+      named c.before.before.before.before.before.before.before.before.before.before.before.before.before,
+      sym (chap-is c.before.before.before.before.before.before.before.before.before.before.before.before)
+          ∙ not-false _ c.if-not-kind.false,
+      ← c.start_at-start.ensures,
+      ← c.byte_at-2.ensures,
+      le-ltb _ _ c.if-byte_at-gt-CHAP_LAST.false,
     ))
 
-pub check-named-spec : {M : Type 1} → statement M
-check-named-spec = tie.close (tie.spec (search rules) returns (search rules) (search rules) (search rules) (search rules)
-    (search rules) returns-2 (search rules) (search rules) (search rules) (search rules) returns-3 (search rules)
-    (search rules) (search rules) (search rules) (search rules) (search rules) returns-4 returns-5 (search rules)
-    (search rules) (search rules) (search rules) (search rules) (search rules) returns-6 returns-7)
+pub check_named_spec : {M : Type 1} → statement M
+check_named_spec = tie.close (tie.spec (search rules) returns (search rules) (search rules) (search rules)
+    (search rules) (search rules) returns-2 (search rules) (search rules) (search rules) (search rules) returns-3
+    (search rules) (search rules) (search rules) (search rules) (search rules) (search rules) returns-4 returns-5
+    (search rules) (search rules) (search rules) (search rules) (search rules) (search rules) returns-6 returns-7)

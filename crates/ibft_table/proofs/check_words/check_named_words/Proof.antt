@@ -11,35 +11,29 @@ use borrow.Author.Rules.{rules}
 use Rattle.ibft_table.proofs.check_words.check_named_words.Statement.{statement}
 use Rattle.ibft_table.proofs.check_words.check_named_words.Tie as tie
 
-abbrev invariant-loop : tie.invariant-loop
+abbrev invariant-loop : tie.invariant-loop-w
 invariant-loop t length least w₀ w = (w ≤ named_count) × (first_of (gather (word_tests t) w (named_count - w)) ≡ first_of (gather (word_tests t) 0 named_count))
 
-abbrev decreases-loop : tie.decreases-loop
+abbrev decreases-loop : tie.decreases-loop-w
 decreases-loop t length least w₀ w = named_count - w
 
-returns : tie.Need-returns invariant-loop decreases-loop
+returns : tie.Need-returns-in-Refused invariant-loop decreases-loop
 returns c =
-    let at-check-named = c.before.before in
-    let at-loop = at-check-named.before.before in
-    let at-start = at-loop.before.before in
-    let l = at-loop.loop in
-    gather-stop (word_tests at-start.args.t.now) named_count l.w (omega arith) _
-    at-check-named.check-named.ensures _ c.enum_told.given.1 ∙ l.invariant.1
+    let l = c.loop-w in
+    gather-stop (word_tests c.args.t.now) named_count l.w (omega arith) _
+    c.check_named-v.ensures _ c.in-Refused.is ∙ l.invariant.1
 
-loop-again : tie.Need-loop-preserved invariant-loop decreases-loop
+loop-again : tie.Need-loop-w-preserved invariant-loop decreases-loop
 loop-again c =
-    let at-check-named = c.before.before in
-    let at-loop = at-check-named.before.before in
-    let at-start = at-loop.before.before in
-    let l = at-loop.loop in (
+    let l = c.loop-w in (
       search rules,
-      gather-go (word_tests at-start.args.t.now) named_count l.w (omega arith) _
-          at-check-named.check-named.ensures c.enum-told2.given.1 ∙ l.invariant.1,
+      gather-go (word_tests c.args.t.now) named_count l.w (omega arith) _
+          c.check_named-v.ensures c.in_default.is ∙ l.invariant.1,
     )
 
-returns-2 : tie.Need-returns-2 invariant-loop decreases-loop
-returns-2 c = sym (gather-end (word_tests c.before.before.before.args.t.now) named_count c.before.loop.w (omega arith)) ∙ c.before.loop.invariant.1
+returns-2 : tie.Need-returns invariant-loop decreases-loop
+returns-2 c = sym (gather-end (word_tests c.args.t.now) named_count c.loop-w.w (omega arith)) ∙ c.loop-w.invariant.1
 
-pub check-named-words-spec : {M : Type 1} → statement M
-check-named-words-spec = tie.close (tie.spec invariant-loop decreases-loop (search rules) (search rules) (search rules) returns
-    (search rules) (search rules) (search rules) loop-again returns-2)
+pub check_named_words_spec : {M : Type 1} → statement M
+check_named_words_spec = tie.close (tie.spec invariant-loop decreases-loop (search rules) (search rules)
+    (search rules) returns (search rules) (search rules) (search rules) loop-again returns-2)

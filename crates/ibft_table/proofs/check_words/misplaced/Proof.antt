@@ -7,16 +7,16 @@ use borrow.Author.Rules.{rules}
 use Rattle.ibft_table.proofs.check_words.misplaced.Statement.{statement}
 use Rattle.ibft_table.proofs.check_words.misplaced.Tie as tie
 
-returns : tie.Need-returns
-returns c = simp (ne_eqb _ _ c.if1.true)
+returns : tie.Need-returns-then-start-ne0
+returns c = simp (ne_eqb _ _ c.if-start-ne0.true)
 
-returns-2 : tie.Need-returns-2
-returns-2 c = simp (lt-ltb _ _ c.if2.true, or-true)
+returns-2 : tie.Need-returns-then-start-least
+returns-2 c = simp (lt-ltb _ _ c.if-start-least.true, or-true)
 
-returns-3 : tie.Need-returns-3
+returns-3 : tie.Need-returns
 returns-3 c =
-    let a = c.before.before.args in
+    let a = c.args in
     simp (eq-eqb (a.start % 8) 0 (omega arith), le-ltb a.start a.least (omega arith))
 
-pub misplaced-spec : {M : Type 1} → statement M
-misplaced-spec = tie.close (tie.spec returns returns-2 (search rules) returns-3)
+pub misplaced_spec : {M : Type 1} → statement M
+misplaced_spec = tie.close (tie.spec returns returns-2 (search rules) returns-3)

@@ -9,23 +9,19 @@ use Rattle.ibft_table.proofs.check_words.no_extra.Statement.{statement}
 use Rattle.ibft_table.proofs.check_words.no_extra.Tie as tie
 
 alien-is : (c : tie.After-alien) → c.alien.result
-    ≡ alien c.before.before.before.before.before.args.t.now
-    (start_at c.before.before.before.before.before.args.t.now c.before.before.before.before.before.args.w)
-    (kind_at c.before.before.before.before.before.args.t.now c.before.before.before.before.before.args.w)
-    (index_at c.before.before.before.before.before.args.t.now c.before.before.before.before.before.args.w)
+    ≡ alien c.args.t.now
+    (start_at c.args.t.now c.args.w)
+    (kind_at c.args.t.now c.args.w)
+    (index_at c.args.t.now c.args.w)
 alien-is c =
-    let at-kind-at = c.before in
-    let at-start-at = at-kind-at.before in
-    let at-index-at = at-start-at.before in
-    let at-start = at-index-at.before.before in
-    c.alien.ensures (kind_at at-start.args.t.now at-start.args.w) at-kind-at.kind_at.ensures
-    ∙ rw (at-start-at.start-at.ensures, at-index-at.index-at.ensures)
+    c.alien.ensures (kind_at c.args.t.now c.args.w) c.kind_at.ensures
+    ∙ rw (c.start_at.ensures, c.index_at-index.ensures)
 
-returns : tie.Need-returns
-returns c = simp (sym (alien-is c.before) ∙ c.if1.true)
+returns : tie.Need-returns-then-alien
+returns c = simp (sym (alien-is c.before) ∙ c.if-alien.true)
 
-returns-2 : tie.Need-returns-2
-returns-2 c = simp (sym (alien-is c.before) ∙ c.if1.false) (ap (λ (i : ℕ). ltb i 2) c.before.before.before.before.index-at.ensures)
+returns-2 : tie.Need-returns
+returns-2 c = simp (sym (alien-is c.before) ∙ c.if-alien.false) (ap (λ (i : ℕ). ltb i 2) c.index_at-index.ensures)
 
-pub no-extra-spec : {M : Type 1} → statement M
-no-extra-spec = tie.close (tie.spec (search rules) (search rules) (search rules) (search rules) returns returns-2)
+pub no_extra_spec : {M : Type 1} → statement M
+no_extra_spec = tie.close (tie.spec (search rules) (search rules) (search rules) (search rules) returns returns-2)

@@ -7,17 +7,14 @@ use borrow.Author.Rules.{rules}
 use Rattle.ibft_table.proofs.check_words.twin.Statement.{statement}
 use Rattle.ibft_table.proofs.check_words.twin.Tie as tie
 
-returns : tie.Need-returns
+returns : tie.Need-returns-then-not-alike
 unfolding twin
-returns c = simp (sym c.before.alike.ensures ∙ not-true _ c.if1.true)
+returns c = simp (sym c.alike.ensures ∙ c.if-not-alike.true)
 
-returns-2 : tie.Need-returns-2
+returns-2 : tie.Need-returns
 unfolding twin
 returns-2 c =
-    let at-index-at = c.before in
-    let at-if1 = at-index-at.before in
-    let at-alike = at-if1.before in
-    simp (sym at-alike.alike.ensures ∙ not-false _ at-if1.if1.false) (ap₂ eqb at-index-at.index-at.ensures c.index-at2.ensures)
+    simp (sym c.alike.ensures ∙ c.if-not-alike.false) (ap₂ eqb c.index_at.ensures c.index_at-2.ensures)
 
-pub twin-spec : {M : Type 1} → statement M
-twin-spec = tie.close (tie.spec (search rules) returns (search rules) (search rules) returns-2)
+pub twin_spec : {M : Type 1} → statement M
+twin_spec = tie.close (tie.spec (search rules) returns (search rules) (search rules) returns-2)

@@ -7,7 +7,7 @@ use Rattle.ibft_table.proofs.starts.entry_at.Statement.{statement}
 use Rattle.ibft_table.proofs.starts.entry_at.Tie as tie
 
 returns : tie.Need-returns
-returns c = c.opened.ensures ∙ ap (λ (n : ℕ). opened named_entries n c.before.before.before.args.number) c.before.nics-in.ensures.0
+returns c = c.opened.ensures ∙ ap (λ (n : ℕ). opened named_entries n c.args.number) c.nics_in.ensures.0
 
-pub entry-at-spec : {M : Type 1} → statement M
-entry-at-spec = tie.close (tie.spec (search rules) (search rules) returns)
+pub entry_at_spec : {M : Type 1} → statement M
+entry_at_spec = tie.close (tie.spec (search rules) (search rules) returns)

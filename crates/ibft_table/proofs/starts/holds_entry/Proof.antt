@@ -10,48 +10,37 @@ use borrow.Author.Rules.{rules}
 use Rattle.ibft_table.proofs.starts.holds_entry.Statement.{statement}
 use Rattle.ibft_table.proofs.starts.holds_entry.Tie as tie
 
-returns : tie.Need-returns
+returns : tie.Need-returns-then-start_in-eq0
 unfolding holds_in present_in
 returns c =
-    let at-start-in = c.before in
-    let at-owner-of = at-start-in.before in
-    let at-start = at-owner-of.before.before.before in
-    let a = at-start.args in
+    let a = c.args in
     let s = a.starts.now in
     let t = a.t.now in
-    let owner-start = at-start-in.start-in.ensures ∙ ap (start_in s) at-owner-of.owner_of.ensures in
+    let owner-start = c.start_in.ensures ∙ ap (start_in s) c.owner_of.ensures in
     simp (eq-eqb (start_in s (owner_of a.n)) 0 (omega arith))
 
-returns-2 : tie.Need-returns-2
+returns-2 : tie.Need-returns-then-u16_at-ne0
 unfolding holds_in present_in size_in
 returns-2 c =
-    let at-string-words-at = c.before.before in
-    let at-start-in = at-string-words-at.before.before in
-    let at-owner-of = at-start-in.before in
-    let at-start = at-owner-of.before.before.before in
-    let a = at-start.args in
+    let a = c.args in
     let s = a.starts.now in
     let t = a.t.now in
-    let owner-start = at-start-in.start-in.ensures ∙ ap (start_in s) at-owner-of.owner_of.ensures in
-    let field = at-string-words-at.string-words-at.ensures in
+    let owner-start = c.start_in.ensures ∙ ap (start_in s) c.owner_of.ensures in
+    let field = c.string_words_at-field.ensures in
     simp (ne_eqb (start_in s (owner_of a.n)) 0 (omega arith), ne_eqb (word16 t (field_in s a.n)) 0 (omega (arith, ap (word16 t) field)))
 
-returns-3 : tie.Need-returns-3
+returns-3 : tie.Need-returns
 unfolding holds_in present_in size_in offset_in
 returns-3 c =
-    let at-string-words-at = c.before.before.before in
-    let at-start-in = at-string-words-at.before.before in
-    let at-owner-of = at-start-in.before in
-    let at-start = at-owner-of.before.before.before in
-    let a = at-start.args in
+    let a = c.args in
     let s = a.starts.now in
     let t = a.t.now in
-    let owner-start = at-start-in.start-in.ensures ∙ ap (start_in s) at-owner-of.owner_of.ensures in
-    let field = at-string-words-at.string-words-at.ensures in
-    let offset : c.u16-at2.result ≡ word16 t (at-string-words-at.string-words-at.result + 2) = c.u16-at2.ensures in
+    let owner-start = c.start_in.ensures ∙ ap (start_in s) c.owner_of.ensures in
+    let field = c.string_words_at-field.ensures in
+    let offset : c.u16_at-2.result ≡ word16 t (c.string_words_at-field.result + 2) = c.u16_at-2.ensures in
     simp (ne_eqb (start_in s (owner_of a.n)) 0 (omega arith), eq-eqb (word16 t (field_in s a.n)) 0 (omega (arith, ap (word16 t) field)))
     (ap (λ (x : ℕ). differs x 0) (offset ∙ ap (λ (f : ℕ). word16 t (f + 2)) field))
 
-pub holds-entry-spec : {M : Type 1} → statement M
-holds-entry-spec = tie.close (tie.spec (search rules) (search rules) (search rules) returns (search rules) (search rules)
-    (search rules) returns-2 (search rules) (search rules) returns-3)
+pub holds_entry_spec : {M : Type 1} → statement M
+holds_entry_spec = tie.close (tie.spec (search rules) (search rules) (search rules) returns (search rules)
+    (search rules) (search rules) returns-2 (search rules) (search rules) returns-3)

@@ -6,7 +6,7 @@ use Rattle.ibft_table.proofs.starts.nics_in.Tie as tie
 
 returns : tie.Need-returns
 unfolding nics_in
-returns c = c.extras-in.ensures
+returns c = c.extras_in.ensures
 
-pub nics-in-spec : {M : Type 1} → statement M
-nics-in-spec = tie.close (tie.spec (search rules) returns)
+pub nics_in_spec : {M : Type 1} → statement M
+nics_in_spec = tie.close (tie.spec (search rules) returns)

@@ -7,17 +7,17 @@ use borrow.Author.Rules.{rules}
 use Rattle.ibft_table.proofs.starts.opened.Statement.{statement}
 use Rattle.ibft_table.proofs.starts.opened.Tie as tie
 
-returns : tie.Need-returns
+returns : tie.Need-returns-then-number-first
 unfolding opened
 returns c =
-    let a = c.before.args in
+    let a = c.args in
     rw (lt-ltb a.number (a.first + a.nics) (omega arith))
 
-returns-2 : tie.Need-returns-2
+returns-2 : tie.Need-returns
 unfolding opened
 returns-2 c =
-    let a = c.before.args in
+    let a = c.args in
     rw (le-ltb a.number (a.first + a.nics) (omega arith))
 
-pub opened-spec : {M : Type 1} → statement M
-opened-spec = tie.close (tie.spec (search rules) returns (search rules) (search rules) (search rules) returns-2)
+pub opened_spec : {M : Type 1} → statement M
+opened_spec = tie.close (tie.spec (search rules) returns (search rules) (search rules) (search rules) returns-2)

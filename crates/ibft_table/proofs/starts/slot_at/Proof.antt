@@ -7,7 +7,7 @@ use Rattle.ibft_table.proofs.starts.slot_at.Statement.{statement}
 use Rattle.ibft_table.proofs.starts.slot_at.Tie as tie
 
 returns : tie.Need-returns
-returns c = c.opened.ensures ∙ ap (λ (n : ℕ). opened 5 n c.before.before.before.args.number) c.before.nics-in.ensures.0
+returns c = c.opened.ensures ∙ ap (λ (n : ℕ). opened 5 n c.args.number) c.nics_in.ensures.0
 
-pub slot-at-spec : {M : Type 1} → statement M
-slot-at-spec = tie.close (tie.spec (search rules) (search rules) returns)
+pub slot_at_spec : {M : Type 1} → statement M
+slot_at_spec = tie.close (tie.spec (search rules) (search rules) returns)

@@ -7,13 +7,13 @@ use borrow.Author.Rules.{rules}
 use Rattle.ibft_table.proofs.starts.start_in.Statement.{statement}
 use Rattle.ibft_table.proofs.starts.start_in.Tie as tie
 
-returns : tie.Need-returns
+returns : tie.Need-returns-then-k-starts
 unfolding start_in
 returns c = cc
 
-returns-2 : tie.Need-returns-2
+returns-2 : tie.Need-returns
 unfolding start_in
-returns-2 c = sym (get_or-eq_default c.before.args.starts.now 0 (omega arith))
+returns-2 c = sym (get_or-eq_default c.args.starts.now 0 (omega arith))
 
-pub start-in-spec : {M : Type 1} → statement M
-start-in-spec = tie.close (tie.spec (search rules) (search rules) returns returns-2)
+pub start_in_spec : {M : Type 1} → statement M
+start_in_spec = tie.close (tie.spec (search rules) (search rules) returns returns-2)

@@ -6,13 +6,14 @@ use borrow.Author.Rules.{rules}
 use Rattle.ibft_table.proofs.words.index_at.Statement.{statement}
 use Rattle.ibft_table.proofs.words.index_at.Tie as tie
 
-returns : tie.Need-returns
+returns : tie.Need-returns-then-w-lt-NAMED_COUNT
 unfolding index_at
-returns c = rw (lt-ltb c.before.before.before.args.w 5 (omega arith)) c.index-of.ensures
+returns c = rw (lt-ltb c.args.w 5 (omega arith)) c.index_of.ensures
 
-returns-2 : tie.Need-returns-2
+returns-2 : tie.Need-returns
 unfolding index_at
-returns-2 c = rw (le-ltb c.before.before.before.before.args.w 5 (omega arith), ← c.before.start-at.ensures) c.byte_at.ensures
+returns-2 c = rw (le-ltb c.args.w 5 (omega arith), ← c.start_at.ensures) c.byte_at.ensures
 
-pub index-at-spec : {M : Type 1} → statement M
-index-at-spec = tie.close (tie.spec (search rules) returns (search rules) (search rules) (search rules) (search rules) (search rules) returns-2)
+pub index_at_spec : {M : Type 1} → statement M
+index_at_spec = tie.close (tie.spec (search rules) returns (search rules) (search rules) (search rules) (search rules)
+    (search rules) returns-2)

@@ -6,37 +6,30 @@ use borrow.Author.Rules.{rules}
 use Rattle.ibft_table.proofs.words.kind_at.Statement.{statement}
 use Rattle.ibft_table.proofs.words.kind_at.Tie as tie
 
-returns : tie.Need-returns
+returns : tie.Need-returns-then-w-lt-NAMED_COUNT
 unfolding kind_at
-returns c = rw (lt-ltb c.before.before.before.args.w 5 (omega arith)) c.kind-of.ensures
+returns c = rw (lt-ltb c.args.w 5 (omega arith)) c.kind_of.ensures
 
-returns-2 : tie.Need-returns-2
+returns-2 : tie.Need-returns-then-byte_at-eq-ID
 unfolding kind_at
 returns-2 c =
-    let at-if2 = c.before in
-    let at-byte-at = at-if2.before in
-    let at-start-at = at-byte-at.before in
-    let at-start = at-start-at.before.before.before in
     rw (
-      le-ltb at-start.args.w 5 (omega arith),
-      ← at-start-at.start-at.ensures,
-      ← at-byte-at.byte_at.ensures,
-      eq-eqb _ _ at-if2.if2.true,
+      le-ltb c.args.w 5 (omega arith),
+      ← c.start_at.ensures,
+      ← c.byte_at.ensures,
+      eq-eqb _ _ c.if-byte_at-eq-ID.true,
     ) c.shape.ensures
 
-returns-3 : tie.Need-returns-3
+returns-3 : tie.Need-returns
 unfolding kind_at
 returns-3 c =
-    let at-if2 = c.before in
-    let at-byte-at = at-if2.before in
-    let at-start-at = at-byte-at.before in
-    let at-start = at-start-at.before.before.before in
     rw (
-      le-ltb at-start.args.w 5 (omega arith),
-      ← at-start-at.start-at.ensures,
-      ← at-byte-at.byte_at.ensures,
-      ne_eqb _ _ at-if2.if2.false,
-    ) c.shape2.ensures
+      le-ltb c.args.w 5 (omega arith),
+      ← c.start_at.ensures,
+      ← c.byte_at.ensures,
+      ne_eqb _ _ c.if-byte_at-eq-ID.false,
+    ) c.shape-2.ensures
 
-pub kind-at-spec : {M : Type 1} → statement M
-kind-at-spec = tie.close (tie.spec (search rules) returns (search rules) (search rules) (search rules) (search rules) returns-2 (search rules) returns-3)
+pub kind_at_spec : {M : Type 1} → statement M
+kind_at_spec = tie.close (tie.spec (search rules) returns (search rules) (search rules) (search rules) (search rules)
+    returns-2 (search rules) returns-3)

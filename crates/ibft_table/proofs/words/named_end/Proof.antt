@@ -9,10 +9,8 @@ use Rattle.ibft_table.proofs.words.named_end.Tie as tie
 returns : tie.Need-returns
 unfolding end_at
 returns c =
-    let at-kind-of = c.before in
-    let at-start-at = at-kind-of.before in
-    let at-start = at-start-at.before.before in
-    rw (at-start-at.start-at.ensures, at-kind-of.kind-of.ensures, kind-named at-start.args.t.now at-start.args.w (omega arith))
+    rw (c.start_at.ensures, c.kind_of.ensures, kind-named c.args.t.now c.args.w (omega arith))
 
-pub named-end-spec : {M : Type 1} → statement M
-named-end-spec = tie.close (tie.spec (search rules) (search rules) (search rules) (search rules) (search rules) returns)
+pub named_end_spec : {M : Type 1} → statement M
+named_end_spec = tie.close (tie.spec (search rules) (search rules) (search rules) (search rules) (search rules)
+    returns)

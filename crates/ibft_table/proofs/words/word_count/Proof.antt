@@ -9,5 +9,5 @@ returns : tie.Need-returns
 unfolding word_count
 returns c = (omega arith, omega arith)
 
-pub word-count-spec : {M : Type 1} → statement M
-word-count-spec = tie.close (tie.spec (search rules) (search rules) returns)
+pub word_count_spec : {M : Type 1} → statement M
+word_count_spec = tie.close (tie.spec (search rules) (search rules) returns)
