@@ -1,5 +1,5 @@
--- `gather_groups` meets its contract: the text is its last piece, its first piece fills the room, or that piece is put before the
--- others. Assumes nothing.
+-- `gather_groups` meets its contract: the text is its last piece, its first piece fills the room, or that piece is put before
+-- the others. Assumes nothing.
 use Rattle.std.proofs.Common.{arith}
 use Rattle.notation.specs.Address.{colon, group, last_group, groups}
 use Rattle.notation.proofs.GatherLaws.{gathers-last, gathers-stop, gathers-next}
