@@ -55,7 +55,7 @@ module _ (a : List ℕ) (k n : ℕ) where
 module _ (a : List ℕ) (four : Bool) where
   numbers-more-suc : (k m : ℕ) → number_text a four k ++ (separator four ∷ numbers_text a four (k + 1) (suc m)) ≡ numbers_text a four k (suc (suc m))
   unfolding numbers_text join tabulate
-  numbers-more-suc k m = rw add-one
+  numbers-more-suc k m = ap (λ (i : ℕ). number_text a four k ++ (separator four ∷ numbers_text a four i (suc m))) (add-one k)
 
   module _ (k n : ℕ) where
     pub numbers-none : n ≡ 0 → [] ≡ numbers_text a four k n

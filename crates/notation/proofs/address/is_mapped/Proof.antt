@@ -8,5 +8,5 @@ returns : tie.Need-returns
 unfolding is_mapped
 returns c = cc
 
-pub is-mapped-spec : {M : Type 1} → statement M
-is-mapped-spec = tie.close (tie.spec (search rules) (search rules) returns)
+pub is_mapped_spec : {M : Type 1} → statement M
+is_mapped_spec = tie.close (tie.spec (search rules) (search rules) returns)

@@ -8,5 +8,5 @@ returns : tie.Need-returns
 unfolding zeros
 returns c = refl
 
-pub no-address-spec : {M : Type 1} → statement M
-no-address-spec = tie.close (tie.spec returns)
+pub no_address_spec : {M : Type 1} → statement M
+no_address_spec = tie.close (tie.spec returns)

@@ -10,49 +10,28 @@ use borrow.Author.Rules.{rules}
 use Rattle.notation.proofs.address.put_address.Statement.{statement}
 use Rattle.notation.proofs.address.put_address.Tie as tie
 
-returns : tie.Need-returns
+returns : tie.Need-returns-then-is_mapped
 returns c =
-    let at-put-numbers = c.before.before in
-    let at-if1 = at-put-numbers.before.before.before in
-    let e = at-if1.before in
-    let a = e.before.before.sixteen-at in
-    puts-same at-put-numbers.put-numbers.ensures
-    (text-mapped a.result (sym e.is_mapped.ensures ∙ at-if1.if1.true) ∙ ap address_text a.ensures)
+    let a = c.sixteen_at-a in
+    puts-same c.put_numbers.ensures
+    (text-mapped a.result (sym c.is_mapped.ensures ∙ c.if-is_mapped.true) ∙ ap address_text a.ensures)
 
-put-six-requires : tie.Need-put-six-requires
+put-six-requires : tie.Need-put_six-requires
 put-six-requires c κs =
-    let at-longest-run = c.before.before in
-    let at-sixteen-at = at-longest-run.before.before.before.before.before in
-    let l = at-longest-run.longest_run in
-    let a = at-sixteen-at.sixteen-at in
+    let l = c.longest_run-run in
+    let a = c.sixteen_at-a in
     let within = (longest-zero a.result 0 8).within in
     omega (arith, within, ap (λ (r : Run). r.start) l.ensures, ap (λ (r : Run). r.size) l.ensures)
 
-returns-2 : tie.Need-returns-2
+returns-2 : tie.Need-returns
 returns-2 c =
-    let at-put-six = c.before.before in
-    let l = at-put-six.before.before.before in
-    let e = l.before.before.before in
-    let a = e.before.before.sixteen-at in
-    puts-same at-put-six.put_six.ensures
-    (ap (six_text a.result) l.longest_run.ensures
-    ∙ text-six a.result (sym e.is_mapped.ensures ∙ l.before.before.if1.false)
+    let a = c.sixteen_at-a in
+    puts-same c.put_six.ensures
+    (ap (six_text a.result) c.longest_run-run.ensures
+    ∙ text-six a.result (sym c.is_mapped.ensures ∙ c.if-is_mapped.false)
     ∙ ap address_text a.ensures)
 
-pub put-address-spec : {M : Type 1} → statement M
-put-address-spec =
-    tie.close
-    (tie.spec
-    (search rules)
-    (λ c. search rules)
-    (search rules)
-    (λ c. search rules)
-    (search rules)
-    (search rules)
-    returns
-    (λ c. search rules)
-    (search rules)
-    (λ c. search rules)
-    put-six-requires
-    (search rules)
-    returns-2)
+pub put_address_spec : {M : Type 1} → statement M
+put_address_spec = tie.close (tie.spec (search rules) (λ c. search rules) (search rules) (λ c. search rules)
+    (search rules) (search rules) returns (λ c. search rules) (search rules) (λ c. search rules) put-six-requires
+    (search rules) returns-2)

@@ -7,19 +7,15 @@ use borrow.Author.Rules.{rules}
 use Rattle.notation.proofs.address.read_address.Statement.{statement}
 use Rattle.notation.proofs.address.read_address.Tie as tie
 
-returns : tie.Need-returns
+returns : tie.Need-returns-then-index_of-s
 returns c =
-    let at-index-of = c.before.before in
-    let at-start = at-index-of.before.before in
-    let a = at-start.args in
-    c.read-six.ensures ∙ ap address_read (address-six a.s.now _ at-index-of.index-of.ensures.0 (omega arith))
+    let a = c.args in
+    c.read_six.ensures ∙ ap address_read (address-six a.s.now _ c.index_of.ensures.0 (omega arith))
 
-returns-2 : tie.Need-returns-2
+returns-2 : tie.Need-returns
 returns-2 c =
-    let at-index-of = c.before.before in
-    let at-start = at-index-of.before.before in
-    let a = at-start.args in
-    c.read_mapped.ensures ∙ ap address_read (address-four a.s.now _ at-index-of.index-of.ensures.0 (omega arith))
+    let a = c.args in
+    c.read_mapped.ensures ∙ ap address_read (address-four a.s.now _ c.index_of.ensures.0 (omega arith))
 
-pub read-address-spec : {M : Type 1} → statement M
-read-address-spec = tie.close (tie.spec (search rules) (search rules) returns (search rules) returns-2)
+pub read_address_spec : {M : Type 1} → statement M
+read_address_spec = tie.close (tie.spec (search rules) (search rules) returns (search rules) returns-2)

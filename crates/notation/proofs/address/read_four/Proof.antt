@@ -10,22 +10,18 @@ use borrow.Author.Rules.{rules}
 use Rattle.notation.proofs.address.read_four.Statement.{statement}
 use Rattle.notation.proofs.address.read_four.Tie as tie
 
-returns : tie.Need-returns
+returns : tie.Need-returns-then-end-ne4
 unfolding four_bytes zeros
 returns c =
-    let at-gather-decimals = c.before.before in
-    let at-start = at-gather-decimals.before.before.before in
-    let s = at-start.args.s.now in
-    sym (ap four_read (exactly-no 4 _ refl (bytes_of decimal decimal (pieces dot s)) at-gather-decimals.gather-decimals.ensures (λ e. omega arith)))
+    let s = c.args.s.now in
+    sym (ap four_read (exactly-no 4 _ refl (bytes_of decimal decimal (pieces dot s)) c.gather_decimals-end.ensures (λ e. omega arith)))
 
-returns-2 : tie.Need-returns-2
+returns-2 : tie.Need-returns
 unfolding four_bytes bytes_past
 returns-2 c =
-    let at-gather-decimals = c.before.before in
-    let at-start = at-gather-decimals.before.before.before in
-    let s = at-start.args.s.now in
-    sym (ap four_read (exactly-yes 4 _ refl (bytes_of decimal decimal (pieces dot s)) at-gather-decimals.gather-decimals.ensures (omega arith)))
+    let s = c.args.s.now in
+    sym (ap four_read (exactly-yes 4 _ refl (bytes_of decimal decimal (pieces dot s)) c.gather_decimals-end.ensures (omega arith)))
 
-pub read-four-spec : {M : Type 1} → statement M
-read-four-spec =
-    tie.close (tie.spec (search rules) (search rules) returns (search rules) (search rules) (search rules) (search rules) returns-2)
+pub read_four_spec : {M : Type 1} → statement M
+read_four_spec = tie.close (tie.spec (search rules) (search rules) returns (search rules) (search rules)
+    (search rules) (search rules) returns-2)

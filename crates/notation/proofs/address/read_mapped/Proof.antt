@@ -11,27 +11,21 @@ use borrow.Author.Rules.{rules}
 use Rattle.notation.proofs.address.read_mapped.Statement.{statement}
 use Rattle.notation.proofs.address.read_mapped.Tie as tie
 
-returns : tie.Need-returns
+returns : tie.Need-returns-then-not-read
 returns c =
-    let at-if1 = c.before in
-    let at-read-four = at-if1.before.before in
-    let at-start = at-read-four.before.before in
-    let read = at-read-four.read-four in
-    let t = at-start.args.s.now in
+    let read = c.read_four-read in
+    let t = c.args.s.now in
     c.no_address.ensures ∙ sym (ap (λ o. address_read (mapped_four o))
-    (four-none (four_bytes t) read.result read.ensures (not-true _ at-if1.if1.true)))
+    (four-none (four_bytes t) read.result read.ensures (not-true _ c.if-not-read.true)))
 
-returns-2 : tie.Need-returns-2
+returns-2 : tie.Need-returns
 unfolding zeros bytes_past
 returns-2 c =
-    let at-if1 = c.before in
-    let at-read-four = at-if1.before.before in
-    let at-start = at-read-four.before.before in
-    let read = at-read-four.read-four in
-    let t = at-start.args.s.now in
-    let found = four-some (four_bytes t) read.result read.ensures (not-false _ at-if1.if1.false) in
+    let read = c.read_four-read in
+    let t = c.args.s.now in
+    let found = four-some (four_bytes t) read.result read.ensures (not-false _ c.if-not-read.false) in
     ap (λ (xs : List ℕ). address_read (some (mapped xs))) (four-listed t read.result.bytes found) ∙ sym (ap (λ o. address_read (mapped_four o)) found)
 
-pub read-mapped-spec : {M : Type 1} → statement M
-read-mapped-spec =
-    tie.close (tie.spec (search rules) (search rules) returns (search rules) (search rules) (search rules) (search rules) returns-2)
+pub read_mapped_spec : {M : Type 1} → statement M
+read_mapped_spec = tie.close (tie.spec (search rules) (search rules) returns (search rules) (search rules)
+    (search rules) (search rules) returns-2)

@@ -11,20 +11,19 @@ use borrow.Author.Rules.{rules}
 use Rattle.notation.proofs.address.read_plain.Statement.{statement}
 use Rattle.notation.proofs.address.read_plain.Tie as tie
 
-returns : tie.Need-returns
+returns : tie.Need-returns-then-end-ne16
 unfolding without_gap
 returns c =
-    let e = c.before.before.before in
-    let s = e.before.before.before.args.s.now in
-    c.no_address.ensures ∙ sym (ap address_read (exactly-no 16 _ refl (groups true s) e.gather-groups.ensures (λ f. omega arith)))
+    let s = c.args.s.now in
+    c.no_address.ensures ∙ sym (ap address_read (exactly-no 16 _ refl (groups true s) c.gather_groups-end.ensures (λ f. omega arith)))
 
-returns-2 : tie.Need-returns-2
+returns-2 : tie.Need-returns
 unfolding without_gap
 returns-2 c =
-    let e = c.before.before.before.before in
-    let s = e.before.before.before.args.s.now in
-    ap (λ (xs : List ℕ). address_read (some xs)) c.sixteen-at.ensures
-    ∙ sym (ap address_read (exactly-yes 16 _ refl (groups true s) e.gather-groups.ensures (omega arith)))
+    let s = c.args.s.now in
+    ap (λ (xs : List ℕ). address_read (some xs)) c.sixteen_at.ensures
+    ∙ sym (ap address_read (exactly-yes 16 _ refl (groups true s) c.gather_groups-end.ensures (omega arith)))
 
-pub read-plain-spec : {M : Type 1} → statement M
-read-plain-spec = tie.close (tie.spec (search rules) (search rules) (search rules) returns (search rules) (search rules) returns-2)
+pub read_plain_spec : {M : Type 1} → statement M
+read_plain_spec = tie.close (tie.spec (search rules) (search rules) (search rules) returns (search rules)
+    (search rules) returns-2)

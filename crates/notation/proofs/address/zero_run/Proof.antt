@@ -12,39 +12,33 @@ use Rattle.notation.proofs.AddressPutLaws.{run_ends, run-whole}
 use Rattle.notation.proofs.address.zero_run.Statement.{statement}
 use Rattle.notation.proofs.address.zero_run.Tie as tie
 
-abbrev invariant-loop : tie.invariant-loop
+abbrev invariant-loop : tie.invariant-loop-j
 invariant-loop a k n j₀ j = (j ≤ n) × ((i : ℕ) → i < j → differs (group_at a (k + i)) 0 ≡ false)
 
-abbrev decreases-loop : tie.decreases-loop
+abbrev decreases-loop : tie.decreases-loop-j
 decreases-loop a k n j₀ j = n - j
 
-loop-holds : tie.Need-loop-init invariant-loop decreases-loop
+loop-holds : tie.Need-loop-j-init invariant-loop decreases-loop
 loop-holds c = (search rules, below_none _)
 
-returns : tie.Need-returns invariant-loop decreases-loop
+returns : tie.Need-returns-then-group_at-ne0 invariant-loop decreases-loop
 returns c =
-    let at-group-at = c.before in
-    let at-loop = at-group-at.before.before in
-    let at-start = at-loop.before.before in
-    let l = at-loop.loop in
-    let a = at-start.args in
-    run_ends a.a.now a.k a.n l.j l.invariant.1 (omega arith) (λ e. omega (arith, at-group-at.group_at.ensures))
+    let l = c.loop-j in
+    let a = c.args in
+    run_ends a.a.now a.k a.n l.j l.invariant.1 (omega arith) (λ e. omega (arith, c.group_at.ensures))
 
-loop-again : tie.Need-loop-preserved invariant-loop decreases-loop
+loop-again : tie.Need-loop-j-preserved invariant-loop decreases-loop
 loop-again c =
-    let at-group-at = c.before in
-    let at-loop = at-group-at.before.before in
-    let at-start = at-loop.before.before in
-    let l = at-loop.loop in
-    let a = at-start.args in
-    (search rules, below_more _ _ l.invariant.1 (same_differs (group_at a.a.now (a.k + l.j)) 0 (omega (arith, at-group-at.group_at.ensures))))
+    let l = c.loop-j in
+    let a = c.args in
+    (search rules, below_more _ _ l.invariant.1 (same_differs (group_at a.a.now (a.k + l.j)) 0 (omega (arith, c.group_at.ensures))))
 
-returns-2 : tie.Need-returns-2 invariant-loop decreases-loop
+returns-2 : tie.Need-returns invariant-loop decreases-loop
 returns-2 c =
-    let l = c.before.loop in
-    let a = c.before.before.before.args in
+    let l = c.loop-j in
+    let a = c.args in
     run-whole a.a.now a.k a.n l.j l.invariant.1 (omega arith)
 
-pub zero-run-spec : {M : Type 1} → statement M
-zero-run-spec =
-    tie.close (tie.spec invariant-loop decreases-loop loop-holds (search rules) (search rules) returns (search rules) (search rules) loop-again returns-2)
+pub zero_run_spec : {M : Type 1} → statement M
+zero_run_spec = tie.close (tie.spec invariant-loop decreases-loop loop-holds (search rules) (search rules) returns
+    (search rules) (search rules) loop-again returns-2)

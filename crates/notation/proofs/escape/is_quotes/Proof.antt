@@ -6,5 +6,5 @@ use Rattle.notation.proofs.escape.is_quotes.Tie as tie
 returns : tie.Need-returns
 returns c = cc
 
-pub is-quotes-spec : {M : Type 1} → statement M
-is-quotes-spec = tie.close (tie.spec (search rules) (search rules) returns)
+pub is_quotes_spec : {M : Type 1} → statement M
+is_quotes_spec = tie.close (tie.spec (search rules) (search rules) returns)

@@ -6,5 +6,5 @@ use Rattle.notation.proofs.escape.is_shown.Tie as tie
 returns : tie.Need-returns
 returns c = cc
 
-pub is-shown-spec : {M : Type 1} → statement M
-is-shown-spec = tie.close (tie.spec (search rules) returns)
+pub is_shown_spec : {M : Type 1} → statement M
+is_shown_spec = tie.close (tie.spec (search rules) returns)

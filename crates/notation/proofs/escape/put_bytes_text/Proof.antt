@@ -12,36 +12,30 @@ use borrow.Author.Rules.{rules}
 use Rattle.notation.proofs.escape.put_bytes_text.Statement.{statement}
 use Rattle.notation.proofs.escape.put_bytes_text.Tie as tie
 
-abbrev invariant-loop : tie.invariant-loop
+abbrev invariant-loop : tie.invariant-loop-i
 invariant-loop room₀ at s place₀ i₀ room place i = (i ≤ length s) × (length room ≡ length room₀) × Puts room₀ room place₀ place (gather (text_at s) 0 i)
 
-abbrev decreases-loop : tie.decreases-loop
+abbrev decreases-loop : tie.decreases-loop-i
 decreases-loop room₀ at s place₀ i₀ room place i = length s - i
 
-loop-holds : tie.Need-loop-init invariant-loop decreases-loop
+loop-holds : tie.Need-loop-i-init invariant-loop decreases-loop
 unfolding gather
-loop-holds c = (search rules, refl, puts-stay c.before.before.put-text.ensures)
+loop-holds c = (search rules, refl, puts-stay c.put_text-place.ensures)
 
-loop-again : tie.Need-loop-preserved invariant-loop decreases-loop
+loop-again : tie.Need-loop-i-preserved invariant-loop decreases-loop
 loop-again c =
-    let at-put-byte-text = c.before.before in
-    let at-loop = at-put-byte-text.before.before.before.before in
-    let at-start = at-loop.before.before.before.before.before.before.before.before in
-    let l = at-loop.loop in
-    let put = at-put-byte-text.put-byte-text.ensures in
-    let s = at-start.args.s.now in
+    let l = c.loop-i in
+    let put = c.put_byte_text-place.ensures in
+    let s = c.args.s.now in
     (search rules, puts-length put ∙ l.invariant.1, puts-same (puts-append l.invariant.2 put) (text-more s l.i _ refl))
 
 returns : tie.Need-returns invariant-loop decreases-loop
 returns c =
-    let at-loop = c.before in
-    let at-put-text = at-loop.before.before.before in
-    let at-start = at-put-text.before.before.before.before.before in
-    let l = at-loop.loop in
-    let s = at-start.args.s.now in
+    let l = c.loop-i in
+    let s = c.args.s.now in
     let all : l.i ≡ length s = omega arith in
-    puts-same (puts-append at-put-text.put-text.ensures l.invariant.2) (ap (λ (n : ℕ). gather (text_at s) 0 n) all)
+    puts-same (puts-append c.put_text-place.ensures l.invariant.2) (ap (λ (n : ℕ). gather (text_at s) 0 n) all)
 
-pub put-bytes-text-spec : {M : Type 1} → statement M
-put-bytes-text-spec = tie.close (tie.spec invariant-loop decreases-loop (search rules) (search rules) loop-holds (search rules)
-    (search rules) (search rules) (search rules) (search rules) loop-again (search rules) returns)
+pub put_bytes_text_spec : {M : Type 1} → statement M
+put_bytes_text_spec = tie.close (tie.spec invariant-loop decreases-loop (search rules) (search rules) loop-holds
+    (search rules) (search rules) (search rules) (search rules) (search rules) loop-again (search rules) returns)

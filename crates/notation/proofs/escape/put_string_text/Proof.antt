@@ -6,17 +6,14 @@ use borrow.Author.Rules.{rules}
 use Rattle.notation.proofs.escape.put_string_text.Statement.{statement}
 use Rattle.notation.proofs.escape.put_string_text.Tie as tie
 
-returns : tie.Need-returns
+returns : tie.Need-returns-then-s-eq0
 returns c =
-    let at-put-text = c.before.before in
-    let at-start = at-put-text.before.before.before.before.before.before in
-    puts-same at-put-text.put-text.ensures (text-empty at-start.args.s.now (omega arith))
+    puts-same c.put_text.ensures (text-empty c.args.s.now (omega arith))
 
-returns-2 : tie.Need-returns-2
+returns-2 : tie.Need-returns
 returns-2 c =
-    let at-put-bytes-text = c.before.before in
-    let at-start = at-put-bytes-text.before.before.before.before.before in
-    puts-same at-put-bytes-text.put-bytes-text.ensures (text-bytes at-start.args.s.now (omega arith))
+    puts-same c.put_bytes_text.ensures (text-bytes c.args.s.now (omega arith))
 
-pub put-string-text-spec : {M : Type 1} → statement M
-put-string-text-spec = tie.close (tie.spec (search rules) (search rules) (search rules) returns (search rules) (search rules) returns-2)
+pub put_string_text_spec : {M : Type 1} → statement M
+put_string_text_spec = tie.close (tie.spec (search rules) (search rules) returns (search rules) (search rules)
+    returns-2)

@@ -9,53 +9,45 @@ use borrow.Author.Rules.{rules}
 use Rattle.notation.proofs.escape.string_length.Statement.{statement}
 use Rattle.notation.proofs.escape.string_length.Tie as tie
 
-abbrev invariant-loop : tie.invariant-loop
+abbrev invariant-loop : tie.invariant-loop-i
 invariant-loop text n₀ i₀ n i = (n ≤ i) × (i ≤ length text) × (longer n (bytes_of (drop i text)) ≡ answer_of (string_of text))
 
-abbrev decreases-loop : tie.decreases-loop
+abbrev decreases-loop : tie.decreases-loop-i
 decreases-loop text n₀ i₀ n i = length text - i
 
-returns : tie.Need-returns invariant-loop decreases-loop
+returns : tie.Need-returns-then-text-eq0 invariant-loop decreases-loop
 returns c =
-    let t = c.before.before.args.text.now in
+    let t = c.args.text.now in
     sym (ap answer_of (string-none t (omega arith)))
 
-returns-2 : tie.Need-returns-2 invariant-loop decreases-loop
+returns-2 : tie.Need-returns-then-is_quotes invariant-loop decreases-loop
 returns-2 c =
-    let t = c.before.before.before.before.args.text.now in
-    sym (ap answer_of (string-quotes t (omega arith) (sym c.before.is-quotes.ensures ∙ c.if2.true)))
+    let t = c.args.text.now in
+    sym (ap answer_of (string-quotes t (omega arith) (sym c.is_quotes.ensures ∙ c.if-is_quotes.true)))
 
-loop-holds : tie.Need-loop-init invariant-loop decreases-loop
+loop-holds : tie.Need-loop-i-init invariant-loop decreases-loop
 loop-holds c =
-    let t = c.before.before.before.before.args.text.now in
-    let pieces = string_bytes t (omega arith) (sym c.before.is-quotes.ensures ∙ c.if2.false) in
+    let t = c.args.text.now in
+    let pieces = string_bytes t (omega arith) (sym c.is_quotes.ensures ∙ c.if-is_quotes.false) in
     (search rules, search rules, longer-zero (bytes_of t) ∙ ap answer_of (sym pieces))
 
-returns-3 : tie.Need-returns-3 invariant-loop decreases-loop
+returns-3 : tie.Need-returns-then-piece-eq0 invariant-loop decreases-loop
 returns-3 c =
-    let at-piece-at = c.before.before in
-    let at-loop = at-piece-at.before.before in
-    let at-start = at-loop.before.before.before.before.before in
-    let t = at-start.args.text.now in
-    let l = at-loop.loop in
-    longer-broken t l.i l.n _ l.invariant.2 at-piece-at.piece-at.result at-piece-at.piece-at.ensures (omega arith)
+    let t = c.args.text.now in
+    let l = c.loop-i in
+    longer-broken t l.i l.n _ l.invariant.2 c.piece_at-piece.result c.piece_at-piece.ensures (omega arith)
 
-loop-again : tie.Need-loop-preserved invariant-loop decreases-loop
+loop-again : tie.Need-loop-i-preserved invariant-loop decreases-loop
 loop-again c =
-    let at-piece-at = c.before.before.before in
-    let at-loop = at-piece-at.before.before in
-    let at-start = at-loop.before.before.before.before.before in
-    let t = at-start.args.text.now in
-    let l = at-loop.loop in
-    (search rules, search rules, longer-more t l.i l.n _ l.invariant.2 at-piece-at.piece-at.result at-piece-at.piece-at.ensures (omega arith))
+    let t = c.args.text.now in
+    let l = c.loop-i in
+    (search rules, search rules, longer-more t l.i l.n _ l.invariant.2 c.piece_at-piece.result c.piece_at-piece.ensures (omega arith))
 
-returns-4 : tie.Need-returns-4 invariant-loop decreases-loop
+returns-4 : tie.Need-returns invariant-loop decreases-loop
 returns-4 c =
-    let at-loop = c.before in
-    let at-start = at-loop.before.before.before.before.before in
-    let l = at-loop.loop in
-    longer-end at-start.args.text.now l.i l.n _ l.invariant.2 (omega arith)
+    let l = c.loop-i in
+    longer-end c.args.text.now l.i l.n _ l.invariant.2 (omega arith)
 
-pub string-length-spec : {M : Type 1} → statement M
-string-length-spec = tie.close (tie.spec invariant-loop decreases-loop returns (search rules) returns-2 loop-holds
+pub string_length_spec : {M : Type 1} → statement M
+string_length_spec = tie.close (tie.spec invariant-loop decreases-loop returns (search rules) returns-2 loop-holds
     (search rules) returns-3 (search rules) (search rules) (search rules) loop-again returns-4)

@@ -6,7 +6,7 @@ use Rattle.notation.proofs.mac.put_mac.Tie as tie
 
 returns : tie.Need-returns
 unfolding mac_text
-returns c = c.before.before.put-pairs.ensures
+returns c = c.put_pairs.ensures
 
-pub put-mac-spec : {M : Type 1} → statement M
-put-mac-spec = tie.close (tie.spec (search rules) (search rules) returns)
+pub put_mac_spec : {M : Type 1} → statement M
+put_mac_spec = tie.close (tie.spec (search rules) (search rules) returns)

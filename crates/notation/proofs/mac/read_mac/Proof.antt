@@ -10,9 +10,7 @@ use Rattle.notation.proofs.mac.read_mac.Tie as tie
 returns : tie.Need-returns
 unfolding zeros read_mac
 returns c =
-    let at-read-pairs = c.before in
-    let at-start = at-read-pairs.before.before.before in
-    mac-answer (read_pairs 6 at-start.args.s.now) at-read-pairs.read_pairs.ensures.0 at-read-pairs.read_pairs.ensures.1
+    mac-answer (read_pairs 6 c.args.s.now) c.read_pairs-ok.ensures.0 c.read_pairs-ok.ensures.1
 
-pub read-mac-spec : {M : Type 1} → statement M
-read-mac-spec = tie.close (tie.spec (search rules) (search rules) returns)
+pub read_mac_spec : {M : Type 1} → statement M
+read_mac_spec = tie.close (tie.spec (search rules) (search rules) returns)

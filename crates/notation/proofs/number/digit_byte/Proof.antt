@@ -9,5 +9,5 @@ returns : tie.Need-returns
 unfolding digit_byte tabulate
 returns c = c.byte_at.ensures
 
-pub digit-byte-spec : {M : Type 1} → statement M
-digit-byte-spec = tie.close (tie.spec (search rules) (search rules) returns)
+pub digit_byte_spec : {M : Type 1} → statement M
+digit_byte_spec = tie.close (tie.spec (search rules) returns)

@@ -9,34 +9,27 @@ use Rattle.notation.proofs.number.digit_value.Statement.{statement}
 use Rattle.notation.proofs.number.digit_value.Tie as tie
 
 -- the digit that was read
-value : (c : tie.After-known-told) → hex_digit c.before.before.before.before.args.b ≡ some c.before.d.given.0.0
+value : (c : tie.In-Value) → hex_digit c.args.b ≡ some c.in-Value.d
 value c =
-    let at-d = c.before in
-    let at-hex-digit = at-d.before.before in
-    let at-start = at-hex-digit.before in
-    answer-value (hex_digit at-start.args.b) at-d.d.given.0.0
-    (sym at-hex-digit.hex-digit.ensures ∙ at-d.d.given.1)
+    answer-value (hex_digit c.args.b) c.in-Value.d
+    (sym c.hex_digit.ensures ∙ c.in-Value.is)
 
-returns : tie.Need-returns
+returns : tie.Need-returns-in_default
 unfolding answer digit below
 returns c =
-    rw (answer-bad (hex_digit c.before.before.before.args.b) (sym c.before.before.hex-digit.ensures ∙ c.enum_told.given.1))
+    rw (answer-bad (hex_digit c.args.b) (sym c.hex_digit.ensures ∙ c.in_default.is))
 
-returns-2 : tie.Need-returns-2
+returns-2 : tie.Need-returns-then-d-base
 unfolding answer digit
 returns-2 c =
-    let at-d = c.before.before in
-    let at-start = at-d.before.before.before in
-    let a = at-start.args in
-    rw (value c.before, below-yes a.base at-d.d.given.0.0 (omega arith))
+    let a = c.args in
+    rw (value c.before, below-yes a.base c.in-Value.d (omega arith))
 
-returns-3 : tie.Need-returns-3
+returns-3 : tie.Need-returns
 unfolding answer digit
 returns-3 c =
-    let at-d = c.before.before in
-    let at-start = at-d.before.before.before in
-    let a = at-start.args in
-    rw (value c.before, below-no a.base at-d.d.given.0.0 (omega arith))
+    let a = c.args in
+    rw (value c.before, below-no a.base c.in-Value.d (omega arith))
 
-pub digit-value-spec : {M : Type 1} → statement M
-digit-value-spec = tie.close (tie.spec (search rules) (search rules) (search rules) returns returns-2 returns-3)
+pub digit_value_spec : {M : Type 1} → statement M
+digit_value_spec = tie.close (tie.spec (search rules) (search rules) (search rules) returns returns-2 returns-3)

@@ -11,17 +11,13 @@ use Rattle.notation.proofs.number.put_hex_byte.Tie as tie
 returns : tie.Need-returns
 unfolding padded
 returns c =
-    let at-put-char2 = c.before.before in
-    let at-digit-byte2 = at-put-char2.before in
-    let at-put-char = at-digit-byte2.before.before.before.before in
-    let at-digit-byte = at-put-char.before in
-    let at-start = at-digit-byte.before.before.before in
-    let b = at-start.args.b in
+    let b = c.args.b in
     let high : b / 16 ≡ b / 16 % 16 = omega arith in
     puts-last
-    (puts_first at-put-char.put-char.ensures (at-digit-byte.digit-byte.ensures ∙ ap digit_byte high))
-    at-put-char2.put-char2.ensures
-    at-digit-byte2.digit-byte2.ensures
+    (puts_first c.put_char-last.ensures (c.digit_byte.ensures ∙ ap digit_byte high))
+    c.put_char.ensures
+    c.digit_byte-2.ensures
 
-pub put-hex-byte-spec : {M : Type 1} → statement M
-put-hex-byte-spec = tie.close (tie.spec (search rules) (search rules) (search rules) (search rules) (search rules) (search rules) (search rules) returns)
+pub put_hex_byte_spec : {M : Type 1} → statement M
+put_hex_byte_spec = tie.close (tie.spec (search rules) (search rules) (search rules) (search rules) (search rules)
+    (search rules) (search rules) returns)

@@ -7,20 +7,18 @@ use borrow.Author.Rules.{rules}
 use Rattle.notation.proofs.number.read_hex_byte.Statement.{statement}
 use Rattle.notation.proofs.number.read_hex_byte.Tie as tie
 
-returns : tie.Need-returns
+returns : tie.Need-returns-then-s-at
 unfolding answer
 returns c =
-    let a = c.before.before.args in
+    let a = c.args in
     rw (hex_byte_at-past a.s.now a.at (omega arith))
 
-returns-2 : tie.Need-returns-2
+returns-2 : tie.Need-returns
 returns-2 c =
-    let at-byte-at2 = c.before.before in
-    let at-byte-at = at-byte-at2.before in
-    let at-start = at-byte-at.before.before.before in
-    let a = at-start.args in
-    c.read-numeral.ensures
-    ∙ rw (at-byte-at.byte_at.ensures, at-byte-at2.byte-at2.ensures) (ap answer (hex_byte_at-below a.s.now a.at))
+    let a = c.args in
+    c.read_numeral.ensures
+    ∙ rw (c.byte_at.ensures, c.byte_at-2.ensures) (ap answer (hex_byte_at-below a.s.now a.at))
 
-pub read-hex-byte-spec : {M : Type 1} → statement M
-read-hex-byte-spec = tie.close (tie.spec returns (search rules) (search rules) (search rules) (search rules) (search rules) returns-2)
+pub read_hex_byte_spec : {M : Type 1} → statement M
+read_hex_byte_spec = tie.close (tie.spec returns (search rules) (search rules) (search rules) (search rules)
+    (search rules) returns-2)

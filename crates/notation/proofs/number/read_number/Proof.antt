@@ -9,30 +9,22 @@ use borrow.Author.Rules.{rules}
 use Rattle.notation.proofs.number.read_number.Statement.{statement}
 use Rattle.notation.proofs.number.read_number.Tie as tie
 
-returns : tie.Need-returns
+returns : tie.Need-returns-then-byte_at
 unfolding number
 returns c =
-    let at_part = c.before in
-    let at-if1 = at_part.before in
-    let at-byte-at2 = at-if1.before in
-    let at-byte-at = at-byte-at2.before in
-    let at-start = at-byte-at.before.before in
-    let t = at-start.args.s.now in
+    let t = c.args.s.now in
     let hex : is_hex t ≡ true =
-    rw (← at-byte-at.byte_at.ensures, ← at-byte-at2.byte-at2.ensures) at-if1.if1.true in
-    c.read-numeral.ensures ∙ rw (at_part.part.ensures.bytes, part-rest t 2 (length t) (omega arith), hex)
+    rw (← c.byte_at.ensures, ← c.byte_at-2.ensures) c.if-byte_at.true in
+    c.read_numeral.ensures ∙ rw (c.part.ensures.bytes, part-rest t 2 (length t) (omega arith), hex)
 
-returns-2 : tie.Need-returns-2
+returns-2 : tie.Need-returns
 unfolding number
 returns-2 c =
-    let at-if1 = c.before in
-    let at-byte-at2 = at-if1.before in
-    let at-byte-at = at-byte-at2.before in
-    let at-start = at-byte-at.before.before in
-    let t = at-start.args.s.now in
+    let t = c.args.s.now in
     let decimal : is_hex t ≡ false =
-    rw (← at-byte-at.byte_at.ensures, ← at-byte-at2.byte-at2.ensures) at-if1.if1.false in
-    c.read-numeral2.ensures ∙ rw decimal
+    rw (← c.byte_at.ensures, ← c.byte_at-2.ensures) c.if-byte_at.false in
+    c.read_numeral-2.ensures ∙ rw decimal
 
-pub read-number-spec : {M : Type 1} → statement M
-read-number-spec = tie.close (tie.spec (search rules) (search rules) (search rules) (search rules) returns (search rules) returns-2)
+pub read_number_spec : {M : Type 1} → statement M
+read_number_spec = tie.close (tie.spec (search rules) (search rules) (search rules) (search rules) returns
+    (search rules) returns-2)

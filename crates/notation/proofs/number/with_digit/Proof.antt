@@ -7,22 +7,18 @@ use borrow.Author.Rules.{rules}
 use Rattle.notation.proofs.number.with_digit.Statement.{statement}
 use Rattle.notation.proofs.number.with_digit.Tie as tie
 
-returns : tie.Need-returns
+returns : tie.Need-returns-in_default
 unfolding answer below
 returns c =
-    let a = c.before.before.before.args in
-    rw (answer-bad (digit a.base a.b) (sym c.before.before.digit_value.ensures ∙ c.enum_told.given.1))
+    let a = c.args in
+    rw (answer-bad (digit a.base a.b) (sym c.digit_value.ensures ∙ c.in_default.is))
 
-returns-2 : tie.Need-returns-2
+returns-2 : tie.Need-returns
 returns-2 c =
-    let at-d = c.before.before in
-    let at-digit-value = at-d.before.before in
-    let at-start = at-digit-value.before in
-    let a = at-start.args in
-    let d = at-d.d.given in
-    let value : digit a.base a.b ≡ some d.0.0 =
-    answer-value (digit a.base a.b) d.0.0 (sym at-digit-value.digit_value.ensures ∙ d.1) in
+    let a = c.args in
+    let d = c.in-Value.d in
+    let value : digit a.base a.b ≡ some d = answer-value (digit a.base a.b) d (sym c.digit_value.ensures ∙ c.in-Value.is) in
     rw value c.shifted.ensures
 
-pub with-digit-spec : {M : Type 1} → statement M
-with-digit-spec = tie.close (tie.spec (search rules) (search rules) (search rules) returns (search rules) returns-2)
+pub with_digit_spec : {M : Type 1} → statement M
+with_digit_spec = tie.close (tie.spec (search rules) (search rules) (search rules) returns (search rules) returns-2)

@@ -4,7 +4,6 @@ use mathlib.Core.Option.{some}
 use Prim.Native.Nat.{ℕ, ◌-◌, ◌*◌, ◌≤◌, ◌<◌}
 use native.Mathlib.Omega.{arith}
 use borrow.Author.Count.{below_more, below_none}
-use borrow.Author.Tests.{not-true, not-false}
 use Rattle.notation.specs.Number.{hex_byte_at}
 use Rattle.notation.specs.Pairs.{is_read, pair_at}
 use Rattle.notation.proofs.NumberLaws.{answer-value, answer-bad}
@@ -13,61 +12,46 @@ use borrow.Author.Rules.{rules}
 use Rattle.notation.proofs.pairs.is_pairs.Statement.{statement}
 use Rattle.notation.proofs.pairs.is_pairs.Tie as tie
 
-abbrev invariant-loop : tie.invariant-loop
+abbrev invariant-loop : tie.invariant-loop-k
 invariant-loop n s k₀ k = (k ≤ n) × ((j : ℕ) → j < k → hex_byte_at s (3 * j) ≡ some (pair_at s (3 * j)))
 
-abbrev decreases-loop : tie.decreases-loop
+abbrev decreases-loop : tie.decreases-loop-k
 decreases-loop n s k₀ k = n - k
 
-returns : tie.Need-returns invariant-loop decreases-loop
+returns : tie.Need-returns-then-not-pairs_form invariant-loop decreases-loop
 unfolding is_read
 returns c =
-    let at-pairs-form = c.before in
-    let at-start = at-pairs-form.before.before in
-    rw (pairs-formless at-start.args.n at-start.args.s.now (sym at-pairs-form.pairs-form.ensures ∙ not-true _ c.if1.true))
+    rw (pairs-formless c.args.n c.args.s.now (sym c.pairs_form.ensures ∙ c.if-not-pairs_form.true))
 
-loop-holds : tie.Need-loop-init invariant-loop decreases-loop
+loop-holds : tie.Need-loop-k-init invariant-loop decreases-loop
 loop-holds c = (search rules, below_none _)
 
 -- three times the pairs is the text's size and one more
-mul-read-hex-byte : tie.Need-overflow-mul-read-hex-byte invariant-loop decreases-loop
+mul-read-hex-byte : tie.Need-overflow_mul-k invariant-loop decreases-loop
 mul-read-hex-byte c =
-    let at-if1 = c.before.before in
-    let at-pairs-form = at-if1.before in
-    let at-start = at-pairs-form.before.before in
-    omega (arith, form-length at-start.args.n at-start.args.s.now (sym at-pairs-form.pairs-form.ensures ∙ not-false _ at-if1.if1.false))
+    omega (arith, form-length c.args.n c.args.s.now (sym c.pairs_form.ensures ∙ c.if-not-pairs_form.false))
 
-returns-2 : tie.Need-returns-2 invariant-loop decreases-loop
+returns-2 : tie.Need-returns-in_default invariant-loop decreases-loop
 unfolding is_read
 returns-2 c =
-    let at-read-hex-byte = c.before.before in
-    let at-loop = at-read-hex-byte.before.before in
-    let at-start = at-loop.before.before.before.before in
-    let t = at-start.args.s.now in
-    let k = at-loop.loop.k in
-    rw (pairs-missing at-start.args.n t k (omega arith)
-    (answer-bad (hex_byte_at t (3 * k)) (sym at-read-hex-byte.read-hex-byte.ensures ∙ c.enum-told2.given.1)))
+    let t = c.args.s.now in
+    let k = c.loop-k.k in
+    rw (pairs-missing c.args.n t k (omega arith)
+    (answer-bad (hex_byte_at t (3 * k)) (sym c.read_hex_byte.ensures ∙ c.in_default.is)))
 
-loop-again : tie.Need-loop-preserved invariant-loop decreases-loop
+loop-again : tie.Need-loop-k-preserved invariant-loop decreases-loop
 loop-again c =
-    let at-read-hex-byte = c.before.before in
-    let at-loop = at-read-hex-byte.before.before in
-    let at-start = at-loop.before.before.before.before in
-    let t = at-start.args.s.now in
-    let l = at-loop.loop in
-    let read = answer-value (hex_byte_at t (3 * l.k)) c.enum_told.given.0.0 (sym at-read-hex-byte.read-hex-byte.ensures ∙ c.enum_told.given.1) in
+    let t = c.args.s.now in
+    let l = c.loop-k in
+    let read = answer-value (hex_byte_at t (3 * l.k)) c.in-Value.field-0 (sym c.read_hex_byte.ensures ∙ c.in-Value.is) in
     (omega arith, below_more _ l.k l.invariant.1 (some-zero (hex_byte_at t (3 * l.k)) _ read))
 
-returns-3 : tie.Need-returns-3 invariant-loop decreases-loop
+returns-3 : tie.Need-returns invariant-loop decreases-loop
 unfolding is_read
 returns-3 c =
-    let at-loop = c.before in
-    let at-if1 = at-loop.before in
-    let at-pairs-form = at-if1.before in
-    let at-start = at-pairs-form.before.before in
-    let form = sym at-pairs-form.pairs-form.ensures ∙ not-false _ at-if1.if1.false in
-    rw (pairs-there at-start.args.n at-start.args.s.now form (λ j h. at-loop.loop.invariant.1 j (omega arith)))
+    let form = sym c.pairs_form.ensures ∙ c.if-not-pairs_form.false in
+    rw (pairs-there c.args.n c.args.s.now form (λ j h. c.loop-k.invariant.1 j (omega arith)))
 
-pub is-pairs-spec : {M : Type 1} → statement M
-is-pairs-spec = tie.close (tie.spec invariant-loop decreases-loop (search rules) returns loop-holds mul-read-hex-byte (search rules)
-    (search rules) (search rules) returns-2 (search rules) (search rules) loop-again returns-3)
+pub is_pairs_spec : {M : Type 1} → statement M
+is_pairs_spec = tie.close (tie.spec invariant-loop decreases-loop (search rules) returns loop-holds mul-read-hex-byte
+    (search rules) (search rules) (search rules) returns-2 (search rules) (search rules) loop-again returns-3)

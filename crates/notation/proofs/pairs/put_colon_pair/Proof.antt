@@ -6,9 +6,7 @@ use Rattle.notation.proofs.pairs.put_colon_pair.Tie as tie
 
 returns : tie.Need-returns
 returns c =
-    let at-put-hex-byte = c.before.before in
-    let at-put-char = at-put-hex-byte.before.before.before.before in
-    puts-append at-put-char.put-char.ensures at-put-hex-byte.put-hex-byte.ensures
+    puts-append c.put_char-next.ensures c.put_hex_byte.ensures
 
-pub put-colon-pair-spec : {M : Type 1} → statement M
-put-colon-pair-spec = tie.close (tie.spec (search rules) (search rules) (search rules) returns)
+pub put_colon_pair_spec : {M : Type 1} → statement M
+put_colon_pair_spec = tie.close (tie.spec (search rules) (search rules) (search rules) returns)

@@ -10,11 +10,8 @@ use Rattle.notation.proofs.pairs.put_pairs.Tie as tie
 returns : tie.Need-returns
 unfolding pairs_text
 returns c =
-    let at-put-colon-pairs = c.before.before in
-    let at-put-hex-byte = at-put-colon-pairs.before.before.before.before in
-    let at-byte-at = at-put-hex-byte.before in
-    puts-append (puts-same at-put-hex-byte.put-hex-byte.ensures (ap (padded 2 16) at-byte-at.byte_at.ensures))
-    at-put-colon-pairs.put-colon-pairs.ensures
+    puts-append (puts-same c.put_hex_byte-next.ensures (ap (padded 2 16) c.byte_at.ensures))
+    c.put_colon_pairs.ensures
 
-pub put-pairs-spec : {M : Type 1} → statement M
-put-pairs-spec = tie.close (tie.spec (search rules) (search rules) (search rules) (search rules) returns)
+pub put_pairs_spec : {M : Type 1} → statement M
+put_pairs_spec = tie.close (tie.spec (search rules) (search rules) (search rules) (search rules) returns)

@@ -3,7 +3,6 @@ use mathlib.Core.Path.{◌≡◌, refl, sym, ◌∙◌}
 use Prim.Native.Nat.{ℕ, ◌-◌, ◌*◌, ◌≤◌, ◌<◌}
 use native.Mathlib.Omega.{arith}
 use borrow.Author.Count.{below_more, below_none}
-use borrow.Author.Tests.{not-true, not-false}
 use lib.ListN.{length, length-set}
 use lib.Seq.{get_or-set_same, get_or-set_other}
 use Rattle.octets.specs.Octets.{byte}
@@ -13,58 +12,49 @@ use borrow.Author.Rules.{rules}
 use Rattle.notation.proofs.pairs.read_pairs.Statement.{statement}
 use Rattle.notation.proofs.pairs.read_pairs.Tie as tie
 
-abbrev invariant-loop : tie.invariant-loop
+abbrev invariant-loop : tie.invariant-loop-k
 invariant-loop s bytes₀ k₀ bytes k = (k ≤ length bytes₀) × (length bytes ≡ length bytes₀) × ((j : ℕ) → j < k → byte bytes j ≡ pair_at s (3 * j))
 
-abbrev decreases-loop : tie.decreases-loop
+abbrev decreases-loop : tie.decreases-loop-k
 decreases-loop s bytes₀ k₀ bytes k = length bytes₀ - k
 
-returns : tie.Need-returns invariant-loop decreases-loop
+returns : tie.Need-returns-then-not-is_pairs invariant-loop decreases-loop
 unfolding is_read read_into
 returns c =
-    let at-is-pairs = c.before in
-    let at-start = at-is-pairs.before.before.before in
-    rw (unread-none (read_pairs (length at-start.args.bytes.now) at-start.args.s.now)
-    (sym at-is-pairs.is-pairs.ensures ∙ not-true _ c.if1.true))
+    rw (unread-none (read_pairs (length c.args.bytes.now) c.args.s.now)
+    (sym c.is_pairs.ensures ∙ c.if-not-is_pairs.true))
     (refl, refl)
 
-loop-holds : tie.Need-loop-init invariant-loop decreases-loop
+loop-holds : tie.Need-loop-k-init invariant-loop decreases-loop
 loop-holds c = (search rules, refl, below_none _)
 
-mul-pair-at : tie.Need-overflow-mul-pair-at invariant-loop decreases-loop
+mul-pair-at : tie.Need-overflow_mul-k invariant-loop decreases-loop
 mul-pair-at c =
-    let at-if1 = c.before.before in
-    let at-is-pairs = at-if1.before in
-    let at-start = at-is-pairs.before.before.before in
     omega (
       arith,
-      pairs-size (length at-start.args.bytes.now) at-start.args.s.now
-          (sym at-is-pairs.is-pairs.ensures ∙ not-false _ at-if1.if1.false),
+      pairs-size (length c.args.bytes.now) c.args.s.now
+          (sym c.is_pairs.ensures ∙ c.if-not-is_pairs.false),
     )
 
-loop-again : tie.Need-loop-preserved invariant-loop decreases-loop
+loop-again : tie.Need-loop-k-preserved invariant-loop decreases-loop
 loop-again c =
-    let l = c.before.before.loop in
-    let v = c.pair-at.result in (
+    let l = c.loop-k in
+    let v = c.pair_at.result in (
       omega arith,
       simp length-set l.invariant.1,
       below_more _ l.k
           (λ j h. get_or-set_other l.bytes l.k j v 0 (omega arith) ∙ l.invariant.2 j h)
-          (get_or-set_same l.bytes l.k v 0 (omega arith) ∙ c.pair-at.ensures),
+          (get_or-set_same l.bytes l.k v 0 (omega arith) ∙ c.pair_at.ensures),
     )
 
-returns-2 : tie.Need-returns-2 invariant-loop decreases-loop
+returns-2 : tie.Need-returns invariant-loop decreases-loop
 unfolding is_read read_into
 returns-2 c =
-    let at-loop = c.before in
-    let at-if1 = at-loop.before in
-    let at-is-pairs = at-if1.before in
-    let at-start = at-is-pairs.before.before.before in
-    let l = at-loop.loop in
-    let read = sym at-is-pairs.is-pairs.ensures ∙ not-false _ at-if1.if1.false in
-    rw (pairs-stored (length at-start.args.bytes.now) at-start.args.s.now l.bytes read l.invariant.1 (λ j h. l.invariant.2 j (omega arith)))
+    let l = c.loop-k in
+    let read = sym c.is_pairs.ensures ∙ c.if-not-is_pairs.false in
+    rw (pairs-stored (length c.args.bytes.now) c.args.s.now l.bytes read l.invariant.1 (λ j h. l.invariant.2 j (omega arith)))
     (refl, refl)
 
-pub read-pairs-spec : {M : Type 1} → statement M
-read-pairs-spec = tie.close (tie.spec invariant-loop decreases-loop (search rules) returns loop-holds mul-pair-at (search rules)
-    (search rules) (search rules) (search rules) loop-again (search rules) returns-2)
+pub read_pairs_spec : {M : Type 1} → statement M
+read_pairs_spec = tie.close (tie.spec invariant-loop decreases-loop (search rules) returns loop-holds mul-pair-at
+    (search rules) (search rules) (search rules) (search rules) loop-again (search rules) returns-2)

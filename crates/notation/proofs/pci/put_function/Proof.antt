@@ -9,19 +9,14 @@ use borrow.Author.Rules.{rules}
 use Rattle.notation.proofs.pci.put_function.Statement.{statement}
 use Rattle.notation.proofs.pci.put_function.Tie as tie
 
-cast : tie.Need-overflow-cast-digit-byte
+cast : tie.Need-overflow_cast-word
 cast c =
-    let at-start = c.before.before.before.before.before.before in
-    omega (arith, and_mask at-start.args.word 3)
+    omega (arith, and_mask c.args.word 3)
 
 returns : tie.Need-returns
 returns c =
-    let at-put-char2 = c.before.before in
-    let at-digit-byte = at-put-char2.before in
-    let at-put-char = at-digit-byte.before.before.before.before in
-    let at-start = at-put-char.before.before.before in
-    let digit = at-digit-byte.digit-byte.ensures ∙ ap digit_byte (and_mask at-start.args.word 3) in
-    puts-append at-put-char.put-char.ensures (puts_first at-put-char2.put-char2.ensures digit)
+    let digit = c.digit_byte.ensures ∙ ap digit_byte (and_mask c.args.word 3) in
+    puts-append c.put_char-next.ensures (puts_first c.put_char.ensures digit)
 
-pub put-function-spec : {M : Type 1} → statement M
-put-function-spec = tie.close (tie.spec (search rules) cast (search rules) (search rules) (search rules) returns)
+pub put_function_spec : {M : Type 1} → statement M
+put_function_spec = tie.close (tie.spec (search rules) cast (search rules) (search rules) (search rules) returns)

@@ -8,9 +8,7 @@ use Rattle.notation.proofs.pci.put_pci.Tie as tie
 returns : tie.Need-returns
 unfolding pci_text
 returns c =
-    let at-put-device = c.before.before in
-    let at-put-hex-byte = at-put-device.before.before.before.before in
-    puts-append at-put-hex-byte.put-hex-byte.ensures at-put-device.put-device.ensures
+    puts-append c.put_hex_byte-next.ensures c.put_device.ensures
 
-pub put-pci-spec : {M : Type 1} → statement M
-put-pci-spec = tie.close (tie.spec (search rules) (search rules) (search rules) (search rules) returns)
+pub put_pci_spec : {M : Type 1} → statement M
+put_pci_spec = tie.close (tie.spec (search rules) (search rules) (search rules) (search rules) returns)

@@ -1,5 +1,5 @@
--- `add_words` meets its contract. Each return is a case of the first word: there is none, it is not in the list, its number is too
--- high, it is in the set already, or it is added. Assumes nothing.
+-- `add_words` meets its contract. Each return is a case of the first word: there is none, it is not in the list, its number is
+-- too high, it is in the set already, or it is added. Assumes nothing.
 use Rattle.std.proofs.Common.{◌≡◌, ◌-◌, List, ℕ, ◌∷◌, length, take, drop, sym, ◌∙◌, rules, arith}
 use borrow.Author.Tests.{eqb-false}
 use Rattle.octets.proofs.ReadLaws.{take_rest}

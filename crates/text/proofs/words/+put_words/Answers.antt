@@ -1,4 +1,5 @@
--- `put_words` meets its contract. Each return is a case of word k: there is none, it is not in the set, or it is. Assumes nothing.
+-- `put_words` meets its contract. Each return is a case of word k: there is none, it is not in the set, or it is. Assumes
+-- nothing.
 use Rattle.std.proofs.Common.{arith}
 use Rattle.text.specs.Words.{words_of}
 use Rattle.text.proofs.PutLaws.{puts-append, puts-same}

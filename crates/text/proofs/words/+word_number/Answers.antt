@@ -1,5 +1,5 @@
--- `word_number` meets its contract: the word is the first, it is not there, or its number is one more among the words behind the
--- first. Assumes nothing.
+-- `word_number` meets its contract: the word is the first, it is not there, or its number is one more among the words behind
+-- the first. Assumes nothing.
 use Rattle.std.proofs.Common.{sym, ◌∙◌, rules, arith}
 use Rattle.octets.proofs.ReadLaws.{take_rest}
 use Rattle.text.proofs.WordsLaws.{number-first, number-last, number-next}
