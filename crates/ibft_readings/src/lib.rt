@@ -1,4 +1,6 @@
 // Readings of the iSCSI Boot Firmware Table, each behind the check: its header, structures and entries, the login order.
+#![tactic(auto)]
+
 pub mod address;
 mod control;
 pub mod entry;

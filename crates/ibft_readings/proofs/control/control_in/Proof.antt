@@ -6,5 +6,5 @@ use Rattle.ibft_readings.proofs.control.control_in.Tie as tie
 returns : tie.Need-returns
 returns c = cc
 
-pub control-in-spec : {M : Type 1} → statement M
-control-in-spec = tie.close (tie.spec (search rules) (search rules) returns)
+pub control_in_spec : {M : Type 1} → statement M
+control_in_spec = tie.close (tie.spec (search rules) (search rules) returns)

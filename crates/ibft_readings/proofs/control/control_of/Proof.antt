@@ -14,10 +14,10 @@ use Rattle.ibft_readings.proofs.control.control_of.Tie as tie
 
 returns : tie.Need-returns
 returns c =
-    let t = c.before.before.before.args.t.now in
-    ap (λ (r : Control). r.flags) c.control-in.ensures
-    ∙ ap (λ (p : List ℕ). byte p 5) (c.before.part.ensures.bytes ∙ part-rest t 48 (length t) (omega arith))
+    let t = c.args.t.now in
+    ap (λ (r : Control). r.flags) c.control_in.ensures
+    ∙ ap (λ (p : List ℕ). byte p 5) (c.part.ensures.bytes ∙ part-rest t 48 (length t) (omega arith))
     ∙ get_or-drop 48 t 5 0
 
-pub control-of-spec : {M : Type 1} → statement M
-control-of-spec = tie.close (tie.spec (search rules) (search rules) (search rules) returns)
+pub control_of_spec : {M : Type 1} → statement M
+control_of_spec = tie.close (tie.spec (search rules) (search rules) (search rules) returns)

@@ -6,7 +6,7 @@ use Rattle.ibft_readings.proofs.entry.entry_verdict.Tie as tie
 
 returns : tie.Need-returns
 unfolding entry_verdict
-returns c = rw (c.verdict-of.ensures, c.before.holds-entry.ensures)
+returns c = rw (c.verdict_of.ensures, c.holds_entry.ensures)
 
-pub entry-verdict-spec : {M : Type 1} → statement M
-entry-verdict-spec = tie.close (tie.spec (search rules) (search rules) returns)
+pub entry_verdict_spec : {M : Type 1} → statement M
+entry_verdict_spec = tie.close (tie.spec (search rules) (search rules) returns)

@@ -10,25 +10,21 @@ use borrow.Author.Rules.{rules}
 use Rattle.ibft_readings.proofs.entry.entry_view.Statement.{statement}
 use Rattle.ibft_readings.proofs.entry.entry_view.Tie as tie
 
-returns : tie.Need-returns
+returns : tie.Need-returns-then-entry-ne0
 returns c =
-    let at-read-entry = c.before.before.before in
-    let at-start = at-read-entry.before.before in
-    let a = at-start.args in
+    let a = c.args in
     let t = a.t.now in
-    let entry = at-read-entry.read-entry in
+    let entry = c.read_entry-entry in
     let number = ap (λ (e : EntryReading). e.refusal.number) entry.ensures in
     let length = ap (λ (e : EntryReading). e.length) entry.ensures in
     let none : (entry_of t a.number).length ≡ 0 = ⊎_elim (λ z. omega arith) (λ z. omega arith) (refused-length t a.number) in
     record { view-is = sym (view-none t a.number none); shows = λ h. absurd (omega arith); refused = λ h. refl }
 
-returns-2 : tie.Need-returns-2
+returns-2 : tie.Need-returns
 returns-2 c =
-    let at-read-entry = c.before.before.before.before.before in
-    let at-start = at-read-entry.before.before in
-    let a = at-start.args in
+    let a = c.args in
     let t = a.t.now in
-    let entry = at-read-entry.read-entry in
+    let entry = c.read_entry-entry in
     let offset = ap (λ (e : EntryReading). e.offset) entry.ensures in
     let bytes : c.part.result.now ≡ view_of t a.number = c.part.ensures.bytes ∙ rw entry.ensures (view-stretch t a.number) in
     record {
@@ -37,5 +33,6 @@ returns-2 c =
       refused = λ h. bytes ∙ view-refused t a.number h;
     }
 
-pub entry-view-spec : {M : Type 1} → statement M
-entry-view-spec = tie.close (tie.spec (search rules) (search rules) returns (search rules) (search rules) (search rules) returns-2)
+pub entry_view_spec : {M : Type 1} → statement M
+entry_view_spec = tie.close (tie.spec (search rules) (search rules) returns (search rules) (search rules)
+    (search rules) returns-2)

@@ -6,7 +6,8 @@ use Rattle.ibft_readings.proofs.header.header_in.Tie as tie
 
 returns : tie.Need-returns
 unfolding header_in
-returns c = rw (c.control-of.ensures, c.before.eight-at.ensures, c.before.before.six-at.ensures)
+returns c = rw (c.control_of.ensures, c.eight_at.ensures, c.six_at.ensures)
 
-pub header-in-spec : {M : Type 1} → statement M
-header-in-spec = tie.close (tie.spec (search rules) (search rules) (search rules) (search rules) (search rules) returns)
+pub header_in_spec : {M : Type 1} → statement M
+header_in_spec = tie.close (tie.spec (search rules) (search rules) (search rules) (search rules) (search rules)
+    returns)

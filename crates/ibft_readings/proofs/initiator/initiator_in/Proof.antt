@@ -7,20 +7,15 @@ use Rattle.ibft_readings.proofs.initiator.initiator_in.Tie as tie
 returns : tie.Need-returns
 unfolding initiator_in
 returns c =
-    let at-sixteen-at4 = c.before.before in
-    let at-sixteen-at3 = at-sixteen-at4.before.before in
-    let at-sixteen-at2 = at-sixteen-at3.before.before in
-    let at-sixteen-at = at-sixteen-at2.before.before in
-    let at-byte-at = at-sixteen-at.before.before in
     rw (
-      at-byte-at.byte_at.ensures,
-      at-sixteen-at.sixteen-at.ensures,
-      at-sixteen-at2.sixteen-at2.ensures,
-      at-sixteen-at3.sixteen-at3.ensures,
-      at-sixteen-at4.sixteen-at4.ensures,
+      c.byte_at.ensures,
+      c.sixteen_at.ensures,
+      c.sixteen_at-2.ensures,
+      c.sixteen_at-3.ensures,
+      c.sixteen_at-4.ensures,
       c.read.ensures,
     )
 
-pub initiator-in-spec : {M : Type 1} → statement M
-initiator-in-spec = tie.close (tie.spec (search rules) (search rules) (search rules) (search rules) (search rules)
+pub initiator_in_spec : {M : Type 1} → statement M
+initiator_in_spec = tie.close (tie.spec (search rules) (search rules) (search rules) (search rules) (search rules)
     (search rules) (search rules) (search rules) (search rules) (search rules) (search rules) (search rules) returns)

@@ -7,17 +7,14 @@ use Rattle.ibft_readings.proofs.initiator.read_initiator.Tie as tie
 returns : tie.Need-returns
 unfolding initiator_of
 returns c =
-    let at-structure-part = c.before in
-    let at-refusal-of = at-structure-part.before.before in
-    let at-slot-verdict = at-refusal-of.before in
-    let at-starts-of = at-slot-verdict.before.before in
     rw (
-      c.initiator-in.ensures,
-      at-structure-part.structure-part.ensures.0,
-      at-refusal-of.refusal-of.ensures,
-      at-slot-verdict.slot-verdict.ensures,
-      at-starts-of.starts-of.ensures,
+      c.initiator_in.ensures,
+      c.structure_part.ensures.0,
+      c.refusal_of.ensures,
+      c.slot_verdict-verdict.ensures,
+      c.starts_of-starts.ensures,
     )
 
-pub read-initiator-spec : {M : Type 1} → statement M
-read-initiator-spec = tie.close (tie.spec (search rules) (search rules) (search rules) (search rules) (search rules) (search rules) (search rules) returns)
+pub read_initiator_spec : {M : Type 1} → statement M
+read_initiator_spec = tie.close (tie.spec (search rules) (search rules) (search rules) (search rules) (search rules)
+    (search rules) (search rules) returns)

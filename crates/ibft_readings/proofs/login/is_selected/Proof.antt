@@ -6,13 +6,13 @@ use borrow.Author.Rules.{rules}
 use Rattle.ibft_readings.proofs.login.is_selected.Statement.{statement}
 use Rattle.ibft_readings.proofs.login.is_selected.Tie as tie
 
-returns : tie.Need-returns
+returns : tie.Need-returns-then-not-is_valid
 unfolding selected
-returns c = rw (sym c.before.is-valid.ensures ∙ not-true _ c.if1.true)
+returns c = rw (sym c.is_valid.ensures ∙ c.if-not-is_valid.true)
 
-returns-2 : tie.Need-returns-2
+returns-2 : tie.Need-returns
 unfolding selected
-returns-2 c = rw (sym c.before.before.is-valid.ensures ∙ not-false _ c.before.if1.false, c.target-flags.ensures)
+returns-2 c = rw (sym c.is_valid.ensures ∙ c.if-not-is_valid.false, c.target_flags.ensures)
 
-pub is-selected-spec : {M : Type 1} → statement M
-is-selected-spec = tie.close (tie.spec (search rules) returns (search rules) returns-2)
+pub is_selected_spec : {M : Type 1} → statement M
+is_selected_spec = tie.close (tie.spec (search rules) returns (search rules) returns-2)

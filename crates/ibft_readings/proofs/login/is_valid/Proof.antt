@@ -9,25 +9,19 @@ use borrow.Author.Rules.{rules}
 use Rattle.ibft_readings.proofs.login.is_valid.Statement.{statement}
 use Rattle.ibft_readings.proofs.login.is_valid.Tie as tie
 
-returns : tie.Need-returns
+returns : tie.Need-returns-then-start_in-eq0
 unfolding valid present_in
 returns c =
-    let at-start-in = c.before in
-    let at-target-slot = at-start-in.before in
-    let at-start = at-target-slot.before.before.before in
-    let a = at-start.args in
-    let start = at-start-in.start-in.ensures ∙ ap (start_in a.starts.now) at-target-slot.target-slot.ensures in
+    let a = c.args in
+    let start = c.start_in.ensures ∙ ap (start_in a.starts.now) c.target_slot.ensures in
     rw (eq-eqb (start_in a.starts.now (target_slot a.n)) 0 (omega arith))
 
-returns-2 : tie.Need-returns-2
+returns-2 : tie.Need-returns
 unfolding valid present_in
 returns-2 c =
-    let at-start-in = c.before.before in
-    let at-target-slot = at-start-in.before in
-    let at-start = at-target-slot.before.before.before in
-    let a = at-start.args in
-    let start = at-start-in.start-in.ensures ∙ ap (start_in a.starts.now) at-target-slot.target-slot.ensures in
-    rw (ne_eqb (start_in a.starts.now (target_slot a.n)) 0 (omega arith)) (ap (has 1) c.target-flags.ensures)
+    let a = c.args in
+    let start = c.start_in.ensures ∙ ap (start_in a.starts.now) c.target_slot.ensures in
+    rw (ne_eqb (start_in a.starts.now (target_slot a.n)) 0 (omega arith)) (ap (has 1) c.target_flags.ensures)
 
-pub is-valid-spec : {M : Type 1} → statement M
-is-valid-spec = tie.close (tie.spec (search rules) (search rules) (search rules) returns (search rules) returns-2)
+pub is_valid_spec : {M : Type 1} → statement M
+is_valid_spec = tie.close (tie.spec (search rules) (search rules) (search rules) returns (search rules) returns-2)

@@ -13,25 +13,22 @@ use Rattle.ibft_readings.proofs.login.led_by.Statement.{statement}
 use Rattle.ibft_readings.proofs.login.led_by.Tie as tie
 
 then-requires : tie.Need-then-requires
-then-requires c κs = omega (arith, ap (λ (o : LoginOrder). o.used) c.before.before.none.ensures)
+then-requires c κs = omega (arith, ap (λ (o : LoginOrder). o.used) c.none-order.ensures)
 
-returns : tie.Need-returns
+returns : tie.Need-returns-then-lead-lt-TARGET_COUNT
 unfolding placed refusal_of tabulate
 returns c =
-    let at-target-index = c.before in
-    let at_none = at-target-index.before.before in
-    let at-start = at_none.before.before.before in
-    let nobody : at_none.none.result ≡ record {
+    let nobody : c.none-order.result ≡ record {
       refusal = accepted;
       used = 0;
       places = 255 ∷ 255 ∷ 255 ∷ 255 ∷ 255 ∷ 255
           ∷ 255 ∷ 255 ∷ [];
-    } = at_none.none.ensures in
-    c.then.ensures ∙ rw (nobody, lt-ltb at-start.args.lead target_count (omega arith), at-target-index.target-index.ensures)
+    } = c.none-order.ensures in
+    c.then.ensures ∙ rw (nobody, lt-ltb c.args.lead target_count (omega arith), c.target_index.ensures)
 
-returns-2 : tie.Need-returns-2
+returns-2 : tie.Need-returns
 unfolding placed refusal_of tabulate
-returns-2 c = rw (le-ltb c.before.before.before.before.args.lead target_count (omega arith)) c.before.none.ensures
+returns-2 c = rw (le-ltb c.args.lead target_count (omega arith)) c.none-order.ensures
 
-pub led-by-spec : {M : Type 1} → statement M
-led-by-spec = tie.close (tie.spec (search rules) (search rules) then-requires returns returns-2)
+pub led_by_spec : {M : Type 1} → statement M
+led_by_spec = tie.close (tie.spec (search rules) (search rules) then-requires returns returns-2)

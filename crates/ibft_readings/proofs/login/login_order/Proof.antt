@@ -10,24 +10,18 @@ use borrow.Author.Rules.{rules}
 use Rattle.ibft_readings.proofs.login.login_order.Statement.{statement}
 use Rattle.ibft_readings.proofs.login.login_order.Tie as tie
 
-returns : tie.Need-returns
+returns : tie.Need-returns-in-Accepted
 unfolding login_order_of login_from order_of
 returns c =
-    let at-starts-of = c.before.before in
-    let at-enum-told = at-starts-of.before in
-    let at-check = at-enum-told.before.before in
-    let at-start = at-check.before.before in
-    rw (sym at-check.check.ensures.verdict-is ∙ at-enum-told.enum_told.given.1)
-    (c.order-of.ensures ∙ ap (λ (s : List ℕ). placed Accepted (order_in s at-start.args.t.now))
-    at-starts-of.starts-of.ensures)
+    rw (sym c.check.ensures.verdict-is ∙ c.in-Accepted.is)
+    (c.order_of.ensures ∙ ap (λ (s : List ℕ). placed Accepted (order_in s c.args.t.now))
+    c.starts_of-starts.ensures)
 
-returns-2 : tie.Need-returns-2
+returns-2 : tie.Need-returns-in-Refused
 unfolding login_order_of login_from placed refusal_of tabulate
 returns-2 c =
-    let at-refusal = c.before.before in
-    let at-check = at-refusal.before.before in
-    rw (sym at-check.check.ensures.verdict-is ∙ at-refusal.refusal.given.1) c.none.ensures
+    rw (sym c.check.ensures.verdict-is ∙ c.in-Refused.is) c.none.ensures
 
-pub login-order-spec : {M : Type 1} → statement M
-login-order-spec = tie.close (tie.spec (search rules) (search rules) (search rules) (search rules) (search rules)
+pub login_order_spec : {M : Type 1} → statement M
+login_order_spec = tie.close (tie.spec (search rules) (search rules) (search rules) (search rules) (search rules)
     (search rules) (search rules) returns returns-2)

@@ -6,7 +6,8 @@ use Rattle.ibft_readings.proofs.login.target_flags.Tie as tie
 
 returns : tie.Need-returns
 unfolding target_flags
-returns c = rw (c.byte_at.ensures, c.before.start-in.ensures, c.before.before.target-slot.ensures)
+returns c = rw (c.byte_at.ensures, c.start_in.ensures, c.target_slot.ensures)
 
-pub target-flags-spec : {M : Type 1} → statement M
-target-flags-spec = tie.close (tie.spec (search rules) (search rules) (search rules) (search rules) (search rules) (search rules) (search rules) returns)
+pub target_flags_spec : {M : Type 1} → statement M
+target_flags_spec = tie.close (tie.spec (search rules) (search rules) (search rules) (search rules) (search rules)
+    (search rules) (search rules) returns)

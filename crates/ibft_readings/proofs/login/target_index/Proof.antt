@@ -6,7 +6,7 @@ use Rattle.ibft_readings.proofs.login.target_index.Tie as tie
 
 returns : tie.Need-returns
 unfolding target_index
-returns c = rw (c.index_in.ensures, c.before.target-slot.ensures)
+returns c = rw (c.index_in.ensures, c.target_slot.ensures)
 
-pub target-index-spec : {M : Type 1} → statement M
-target-index-spec = tie.close (tie.spec (search rules) (search rules) (search rules) returns)
+pub target_index_spec : {M : Type 1} → statement M
+target_index_spec = tie.close (tie.spec (search rules) (search rules) (search rules) returns)

@@ -7,23 +7,17 @@ use Rattle.ibft_readings.proofs.nic.read_nic.Tie as tie
 returns : tie.Need-returns
 unfolding nic_of
 returns c =
-    let at-structure-part = c.before in
-    let at-index-shown = at-structure-part.before.before in
-    let at-refusal-of = at-index-shown.before.before in
-    let at-slot-verdict = at-refusal-of.before in
-    let at-starts-of = at-slot-verdict.before.before in
-    let at-nic-slot = at-starts-of.before in
     rw (
-      c.nic-in.ensures,
-      at-structure-part.structure-part.ensures.0,
-      at-index-shown.index-shown.ensures,
-      at-refusal-of.refusal-of.ensures,
-      at-slot-verdict.slot-verdict.ensures,
-      at-starts-of.starts-of.ensures,
-      at-nic-slot.nic-slot.ensures,
+      c.nic_in.ensures,
+      c.structure_part.ensures.0,
+      c.index_shown.ensures,
+      c.refusal_of.ensures,
+      c.slot_verdict-verdict.ensures,
+      c.starts_of-starts.ensures,
+      c.nic_slot-slot.ensures,
     )
 
-pub read-nic-spec : {M : Type 1} → statement M
-read-nic-spec = tie.close (tie.spec (search rules) (search rules) (search rules) (search rules) (search rules)
+pub read_nic_spec : {M : Type 1} → statement M
+read_nic_spec = tie.close (tie.spec (search rules) (search rules) (search rules) (search rules) (search rules)
     (search rules) (search rules) (search rules) (search rules) (search rules) (search rules) (search rules)
     (search rules) returns)

@@ -4,13 +4,13 @@ use borrow.Author.Rules.{rules}
 use Rattle.ibft_readings.proofs.structure.index_shown.Statement.{statement}
 use Rattle.ibft_readings.proofs.structure.index_shown.Tie as tie
 
-returns : tie.Need-returns
+returns : tie.Need-returns-in-Accepted
 unfolding index_shown
-returns c = rw c.before.enum_told.given.1 c.index_in.ensures
+returns c = rw c.in-Accepted.is c.index_in.ensures
 
-returns-2 : tie.Need-returns-2
+returns-2 : tie.Need-returns-in-Refused
 unfolding index_shown
-returns-2 c = rw c.enum-told2.given.1
+returns-2 c = rw c.in-Refused.is
 
-pub index-shown-spec : {M : Type 1} → statement M
-index-shown-spec = tie.close (tie.spec (search rules) (search rules) (search rules) returns returns-2)
+pub index_shown_spec : {M : Type 1} → statement M
+index_shown_spec = tie.close (tie.spec (search rules) (search rules) (search rules) returns returns-2)

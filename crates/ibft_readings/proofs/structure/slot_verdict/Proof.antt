@@ -8,7 +8,7 @@ use Rattle.ibft_readings.proofs.structure.slot_verdict.Tie as tie
 
 returns : tie.Need-returns
 unfolding slot_verdict present_in
-returns c = simp (← c.before.start-in.ensures, not-not) c.verdict-of.ensures
+returns c = simp (← c.start_in.ensures, not-not) c.verdict_of.ensures
 
-pub slot-verdict-spec : {M : Type 1} → statement M
-slot-verdict-spec = tie.close (tie.spec (search rules) (search rules) returns)
+pub slot_verdict_spec : {M : Type 1} → statement M
+slot_verdict_spec = tie.close (tie.spec (search rules) (search rules) returns)

@@ -15,20 +15,17 @@ use Rattle.ibft_readings.proofs.structure.structure_part.Tie as tie
 returns : tie.Need-returns
 unfolding shown structure_in
 returns c =
-    let at_part = c.before in
-    let at-start-in = at_part.before in
-    let at-start = at-start-in.before.before.before in
-    let a = at-start.args in
+    let a = c.args in
     let s = a.starts.now in
     let t = a.t.now in
-    let start = at-start-in.start-in in
-    let lent : at_part.part.result.now ≡ part t start.result (length t) = at_part.part.ensures.bytes in
-    let bytes : at_part.part.result.now ≡ drop (start_in s a.k) t =
+    let start = c.start_in-start in
+    let lent : c.part.result.now ≡ part t start.result (length t) = c.part.ensures.bytes in
+    let bytes : c.part.result.now ≡ drop (start_in s a.k) t =
     lent ∙ part-rest t start.result (length t) (omega arith) ∙ ap (λ (n : ℕ). drop n t) start.ensures in
-    let view = c.Shown-of.ensures in (
+    let view = c.shown_of.ensures in (
       view.0 ∙ ap (shown a.verdict) bytes,
       λ accepted within.
-          let shows = at_part.part.ensures.shows (omega arith) in
+          let shows = c.part.ensures.shows (omega arith) in
           record {
             bytes = view.0 ∙ rw accepted (bytes ∙ sym (part-rest t (start_in s a.k) (length t - start_in s a.k) (omega arith)));
             block = ap (λ p. p.0) (view.1 accepted) ∙ shows.block;
@@ -36,5 +33,5 @@ returns c =
           },
     )
 
-pub structure-part-spec : {M : Type 1} → statement M
-structure-part-spec = tie.close (tie.spec (search rules) (search rules) (search rules) (search rules) returns)
+pub structure_part_spec : {M : Type 1} → statement M
+structure_part_spec = tie.close (tie.spec (search rules) (search rules) (search rules) (search rules) returns)

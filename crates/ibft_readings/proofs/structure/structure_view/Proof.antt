@@ -10,18 +10,14 @@ use Rattle.ibft_readings.proofs.structure.structure_view.Tie as tie
 returns : tie.Need-returns
 unfolding structure_view_of structure_view_got
 returns c =
-    let at-slot-verdict = c.before.before in
-    let at-slot-at = at-slot-verdict.before.before in
-    let at-starts-of = at-slot-at.before.before in
-    let at-start = at-starts-of.before.before in
-    let a = at-start.args in
+    let a = c.args in
     let t = a.t.now in
-    let starts = at-starts-of.starts-of.ensures in
-    let k = at-slot-at.slot-at.ensures in
-    let verdict = at-slot-verdict.slot-verdict.ensures in
-    let part = c.structure-part.ensures in
-    let bytes : c.structure-part.result.now ≡ structure_view_of t a.number = rw (verdict, k, starts) at part.0 in
-    let judged : at-slot-verdict.slot-verdict.result ≡ slot_judged t a.number = rw (k, starts) at verdict in
+    let starts = c.starts_of-starts.ensures in
+    let k = c.slot_at-k.ensures in
+    let verdict = c.slot_verdict-verdict.ensures in
+    let part = c.structure_part.ensures in
+    let bytes : c.structure_part.result.now ≡ structure_view_of t a.number = rw (verdict, k, starts) at part.0 in
+    let judged : c.slot_verdict-verdict.result ≡ slot_judged t a.number = rw (k, starts) at verdict in
     record {
       view-is = bytes;
       shows = λ zero.
@@ -31,5 +27,6 @@ returns c =
       refused = λ h. bytes ∙ structure-hidden t a.number h;
     }
 
-pub structure-view-spec : {M : Type 1} → statement M
-structure-view-spec = tie.close (tie.spec (search rules) (search rules) (search rules) (search rules) (search rules) (search rules) (search rules) returns)
+pub structure_view_spec : {M : Type 1} → statement M
+structure_view_spec = tie.close (tie.spec (search rules) (search rules) (search rules) (search rules) (search rules)
+    (search rules) (search rules) returns)
