@@ -1,5 +1,7 @@
 // What a build makes: the record range, the refusals, the plan, the table's bytes, and the laws of these. No code but that of
 // the record range, which is read in many places, and the type of a build's answer.
+#![tactic(auto)]
+
 pub mod range;
 
 use table_header::verdict::Refusal;

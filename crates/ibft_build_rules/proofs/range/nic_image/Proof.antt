@@ -9,5 +9,5 @@ returns : tie.Need-returns
 unfolding nic_image
 returns c = (omega arith, omega arith)
 
-pub nic-image-spec : {M : Type 1} → statement M
-nic-image-spec = tie.close (tie.spec (search rules) (search rules) returns)
+pub nic_image_spec : {M : Type 1} → statement M
+nic_image_spec = tie.close (tie.spec (search rules) (search rules) returns)

@@ -8,5 +8,5 @@ returns : tie.Need-returns
 unfolding range_size target_image
 returns c = search rules
 
-pub range-size-spec : {M : Type 1} → statement M
-range-size-spec = tie.close (tie.spec (search rules) (search rules) returns)
+pub range_size_spec : {M : Type 1} → statement M
+range_size_spec = tie.close (tie.spec (search rules) (search rules) returns)

@@ -8,17 +8,18 @@ use borrow.Author.Rules.{rules}
 use Rattle.ibft_build_rules.proofs.range.structure_given.Statement.{statement}
 use Rattle.ibft_build_rules.proofs.range.structure_given.Tie as tie
 
-returns : tie.Need-returns
+returns : tie.Need-returns-then-k-lt-NAMED_COUNT
 returns c = ap (λ (b : ℕ). eqb b 1) c.byte_at.ensures ∙ given-named _ _ (omega arith)
 
-returns-2 : tie.Need-returns-2
-returns-2 c = ap (ltb _) c.nics-given.ensures ∙ given-nic _ _ (omega arith) (omega arith)
+returns-2 : tie.Need-returns-then-k-lt-EXTRA_TARGETS
+returns-2 c = ap (ltb _) c.nics_given.ensures ∙ given-nic _ _ (omega arith) (omega arith)
 
-returns-3 : tie.Need-returns-3
-returns-3 c = ap (ltb _) c.targets-given.ensures ∙ given-target _ _ (omega arith) (omega arith)
+returns-3 : tie.Need-returns-then-k-lt-SLOT_COUNT
+returns-3 c = ap (ltb _) c.targets_given.ensures ∙ given-target _ _ (omega arith) (omega arith)
 
-returns-4 : tie.Need-returns-4
+returns-4 : tie.Need-returns
 returns-4 c = sym (given-past _ _ (omega arith))
 
-pub structure-given-spec : {M : Type 1} → statement M
-structure-given-spec = tie.close (tie.spec (search rules) (search rules) (search rules) returns (search rules) returns-2 (search rules) returns-3 returns-4)
+pub structure_given_spec : {M : Type 1} → statement M
+structure_given_spec = tie.close (tie.spec (search rules) (search rules) (search rules) returns (search rules)
+    returns-2 (search rules) returns-3 returns-4)

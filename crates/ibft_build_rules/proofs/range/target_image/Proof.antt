@@ -9,5 +9,5 @@ returns : tie.Need-returns
 unfolding target_image nic_image
 returns c = (omega arith, omega arith)
 
-pub target-image-spec : {M : Type 1} → statement M
-target-image-spec = tie.close (tie.spec (search rules) (search rules) (search rules) (search rules) returns)
+pub target_image_spec : {M : Type 1} → statement M
+target_image_spec = tie.close (tie.spec (search rules) (search rules) (search rules) (search rules) returns)
