@@ -1,8 +1,8 @@
 -- `only-one` meets its contract, by cases of the first. Assumes nothing.
 use Rattle.ibft_compare.specs.Walk.{only_one}
 use borrow.Author.Rules.{rules}
-use Rattle.ibft_compare.proofs.unequal.only-one.Statement.{statement}
-use Rattle.ibft_compare.proofs.unequal.only-one.Tie as tie
+use Rattle.ibft_compare.proofs.unequal.only_one.Statement.{statement}
+use Rattle.ibft_compare.proofs.unequal.only_one.Tie as tie
 
 returns : tie.Need-returns
 unfolding only_one

@@ -7,23 +7,24 @@ use borrow.Author.Rules.{rules}
 use Rattle.ibft_record.proofs.record.closed.Statement.{statement}
 use Rattle.ibft_record.proofs.record.closed.Tie as tie
 
-returns : tie.Need-returns
+returns : tie.Need-returns-then-k-first
 unfolding closed
 returns c =
-    let a = c.before.args in
+    let a = c.args in
     rw (lt-ltb a.k (a.first + 6) (omega arith))
 
-returns-2 : tie.Need-returns-2
+returns-2 : tie.Need-returns-then-nics-ge-EXTRA_MOST
 unfolding closed
 returns-2 c =
-    let a = c.before.before.args in
+    let a = c.args in
     rw (le-ltb a.k (a.first + 6) (omega arith)) (omega arith)
 
-returns-3 : tie.Need-returns-3
+returns-3 : tie.Need-returns
 unfolding closed
 returns-3 c =
-    let a = c.before.before.args in
+    let a = c.args in
     rw (le-ltb a.k (a.first + 6) (omega arith))
 
-pub closed-spec : {M : Type 1} → statement M
-closed-spec = tie.close (tie.spec (search rules) (search rules) returns returns-2 (search rules) (search rules) returns-3)
+pub closed_spec : {M : Type 1} → statement M
+closed_spec = tie.close (tie.spec (search rules) (search rules) returns returns-2 (search rules) (search rules)
+    returns-3)

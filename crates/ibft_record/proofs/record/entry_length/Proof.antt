@@ -8,5 +8,5 @@ returns : tie.Need-returns
 unfolding length_given
 returns c = cc
 
-pub entry-length-spec : {M : Type 1} → statement M
-entry-length-spec = tie.close (tie.spec (search rules) (search rules) (search rules) returns)
+pub entry_length_spec : {M : Type 1} → statement M
+entry_length_spec = tie.close (tie.spec (search rules) (search rules) (search rules) returns)

@@ -8,15 +8,15 @@ use borrow.Author.Rules.{rules}
 use Rattle.ibft_record.proofs.record.entry_limit.Statement.{statement}
 use Rattle.ibft_record.proofs.record.entry_limit.Tie as tie
 
-cast-result : tie.Need-overflow-cast-result
-cast-result c = omega (arith, c.first_entry.ensures, first-most _ c.before.slot-limit.ensures.1)
+cast-result : tie.Need-overflow_cast-result
+cast-result c = omega (arith, c.first_entry.ensures, first-most _ c.slot_limit.ensures.1)
 
 returns : tie.Need-returns
 unfolding entry_limit
 returns c =
-    let limit = c.before.slot-limit.ensures in
+    let limit = c.slot_limit.ensures in
     let first = c.first_entry.ensures in
     (first ∙ ap first_entry limit.0, omega (arith, first-most _ limit.1))
 
-pub entry-limit-spec : {M : Type 1} → statement M
-entry-limit-spec = tie.close (tie.spec (search rules) (search rules) cast-result returns)
+pub entry_limit_spec : {M : Type 1} → statement M
+entry_limit_spec = tie.close (tie.spec (search rules) (search rules) cast-result returns)

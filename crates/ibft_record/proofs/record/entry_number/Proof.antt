@@ -6,5 +6,5 @@ use Rattle.ibft_record.proofs.record.entry_number.Tie as tie
 returns : tie.Need-returns
 returns c = cc
 
-pub entry-number-spec : {M : Type 1} → statement M
-entry-number-spec = tie.close (tie.spec (search rules) (search rules) returns)
+pub entry_number_spec : {M : Type 1} → statement M
+entry_number_spec = tie.close (tie.spec (search rules) (search rules) returns)

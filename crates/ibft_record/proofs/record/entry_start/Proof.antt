@@ -8,5 +8,5 @@ returns : tie.Need-returns
 unfolding start_given
 returns c = cc
 
-pub entry-start-spec : {M : Type 1} → statement M
-entry-start-spec = tie.close (tie.spec (search rules) (search rules) (search rules) (search rules) returns)
+pub entry_start_spec : {M : Type 1} → statement M
+entry_start_spec = tie.close (tie.spec (search rules) (search rules) (search rules) (search rules) returns)

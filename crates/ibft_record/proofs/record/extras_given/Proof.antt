@@ -8,7 +8,7 @@ use Rattle.ibft_record.proofs.record.extras_given.Statement.{statement}
 use Rattle.ibft_record.proofs.record.extras_given.Tie as tie
 
 returns : tie.Need-returns
-returns c = (ap₂ ◌+◌ c.before.extra-nics.ensures.0 c.extra-targets.ensures.0 ∙ extras-are _, omega arith)
+returns c = (ap₂ ◌+◌ c.extra_nics.ensures.0 c.extra_targets.ensures.0 ∙ extras-are _, omega arith)
 
-pub extras-given-spec : {M : Type 1} → statement M
-extras-given-spec = tie.close (tie.spec (search rules) (search rules) (search rules) returns)
+pub extras_given_spec : {M : Type 1} → statement M
+extras_given_spec = tie.close (tie.spec (search rules) (search rules) (search rules) returns)

@@ -4,7 +4,8 @@ use Rattle.ibft_record.proofs.record.field_at.Statement.{statement}
 use Rattle.ibft_record.proofs.record.field_at.Tie as tie
 
 returns : tie.Need-returns
-returns c = rw (c.image-at.ensures.0, c.before.owner_of.ensures, c.before.before.string-of.ensures)
+returns c = rw (c.image_at.ensures.0, c.owner_of.ensures, c.string_of-at.ensures)
 
-pub field-at-spec : {M : Type 1} → statement M
-field-at-spec = tie.close (tie.spec (search rules) (search rules) (search rules) (search rules) (search rules) (search rules) returns)
+pub field_at_spec : {M : Type 1} → statement M
+field_at_spec = tie.close (tie.spec (search rules) (search rules) (search rules) (search rules) (search rules)
+    (search rules) returns)

@@ -6,20 +6,17 @@ use borrow.Author.Rules.{rules}
 use Rattle.ibft_record.proofs.record.index_given.Statement.{statement}
 use Rattle.ibft_record.proofs.record.index_given.Tie as tie
 
-returns : tie.Need-returns
-returns c = c.index-of.ensures ∙ index-named _ _ (omega arith)
+returns : tie.Need-returns-then-k-lt-NAMED_COUNT
+returns c = c.index_of.ensures ∙ index-named _ _ (omega arith)
 
-returns-2 : tie.Need-returns-2
+returns-2 : tie.Need-returns-then-structure_given
 returns-2 c =
-    let at-image-at = c.before in
-    let at-if2 = at-image-at.before in
-    let at-structure-given = at-if2.before in
-    let on = sym at-structure-given.structure-given.ensures ∙ at-if2.if2.true in
-    c.byte_at.ensures ∙ rw at-image-at.image-at.ensures.0 (index-there _ _ (omega arith) on)
+    let on = sym c.structure_given.ensures ∙ c.if-structure_given.true in
+    c.byte_at.ensures ∙ rw c.image_at.ensures.0 (index-there _ _ (omega arith) on)
 
-returns-3 : tie.Need-returns-3
-returns-3 c = index-none _ _ (omega arith) (sym c.before.structure-given.ensures ∙ c.if2.false)
+returns-3 : tie.Need-returns
+returns-3 c = index-none _ _ (omega arith) (sym c.structure_given.ensures ∙ c.if-structure_given.false)
 
-pub index-given-spec : {M : Type 1} → statement M
-index-given-spec = tie.close (tie.spec (search rules) returns (search rules) (search rules) (search rules) (search rules)
-    (search rules) (search rules) returns-2 returns-3)
+pub index_given_spec : {M : Type 1} → statement M
+index_given_spec = tie.close (tie.spec (search rules) returns (search rules) (search rules) (search rules)
+    (search rules) (search rules) (search rules) returns-2 returns-3)

@@ -6,5 +6,5 @@ use Rattle.ibft_record.proofs.record.slot_number.Tie as tie
 returns : tie.Need-returns
 returns c = cc
 
-pub slot-number-spec : {M : Type 1} → statement M
-slot-number-spec = tie.close (tie.spec (search rules) (search rules) returns)
+pub slot_number_spec : {M : Type 1} → statement M
+slot_number_spec = tie.close (tie.spec (search rules) (search rules) returns)

@@ -29,48 +29,48 @@ abbrev from-extras : tie.Start → List Test
 from-extras s = extras_tests s.args.range.now ++ from-flags s
 
 -- the start, from behind each part that has passed
-abbrev start1 : tie.After-enum-told2 → tie.Start
-start1 c = c.before.before.before.before.before
+abbrev start1 : tie.In_default → tie.Start
+start1 c = c.before.before.before.before
 
-abbrev start2 : tie.After-enum-told4 → tie.Start
-start2 c = start1 c.before.before.before
+abbrev start2 : tie.In_default-v → tie.Start
+start2 c = start1 c.before.before
 
-abbrev start3 : tie.After-enum-told6 → tie.Start
-start3 c = start2 c.before.before.before
+abbrev start3 : tie.In_default-v-2 → tie.Start
+start3 c = start2 c.before.before
 
-abbrev start4 : tie.After-enum-told8 → tie.Start
-start4 c = start3 c.before.before.before
+abbrev start4 : tie.In_default-v-3 → tie.Start
+start4 c = start3 c.before.before
 
-range-passed : (c : tie.After-enum-told2) → first_of (from-extras (start1 c)) ≡ whole (start1 c)
+range-passed : (c : tie.In_default) → first_of (from-extras (start1 c)) ≡ whole (start1 c)
 unfolding contents_verdict contents_tests
-range-passed c = append-go _ _ _ c.before.before.range-verdict.ensures c.enum-told2.given.1
+range-passed c = append-go _ _ _ c.range_verdict-v.ensures c.in_default.is
 
-extras-passed : (c : tie.After-enum-told4) → first_of (from-flags (start2 c)) ≡ whole (start2 c)
-extras-passed c = append-go _ _ _ c.before.before.extras-verdict.ensures c.enum-told4.given.1 ∙ range-passed c.before.before.before
+extras-passed : (c : tie.In_default-v) → first_of (from-flags (start2 c)) ≡ whole (start2 c)
+extras-passed c = append-go _ _ _ c.extras_verdict-v.ensures c.in_default-v.is ∙ range-passed c.before.before
 
-flags-passed : (c : tie.After-enum-told6) → first_of (from-images (start3 c)) ≡ whole (start3 c)
-flags-passed c = append-go _ _ _ c.before.before.flags-verdict.ensures c.enum-told6.given.1 ∙ extras-passed c.before.before.before
+flags-passed : (c : tie.In_default-v-2) → first_of (from-images (start3 c)) ≡ whole (start3 c)
+flags-passed c = append-go _ _ _ c.flags_verdict-v.ensures c.in_default-v-2.is ∙ extras-passed c.before.before
 
-images-passed : (c : tie.After-enum-told8) → first_of (from-strings (start4 c)) ≡ whole (start4 c)
-images-passed c = append-go _ _ _ c.before.before.images-verdict.ensures c.enum-told8.given.1 ∙ flags-passed c.before.before.before
+images-passed : (c : tie.In_default-v-3) → first_of (from-strings (start4 c)) ≡ whole (start4 c)
+images-passed c = append-go _ _ _ c.images_verdict-v.ensures c.in_default-v-3.is ∙ flags-passed c.before.before
 
-returns : tie.Need-returns
+returns : tie.Need-returns-in-Refused
 unfolding contents_verdict contents_tests
-returns c = append-stop _ _ _ c.before.before.range-verdict.ensures _ c.enum_told.given.1
+returns c = append-stop _ _ _ c.range_verdict-v.ensures _ c.in-Refused.is
 
-returns-2 : tie.Need-returns-2
-returns-2 c = append-stop _ _ _ c.before.before.extras-verdict.ensures _ c.enum-told3.given.1 ∙ range-passed c.before.before.before
+returns-2 : tie.Need-returns-in-Refused-v
+returns-2 c = append-stop _ _ _ c.extras_verdict-v.ensures _ c.in-Refused-v.is ∙ range-passed c.before.before
 
-returns-3 : tie.Need-returns-3
-returns-3 c = append-stop _ _ _ c.before.before.flags-verdict.ensures _ c.enum-told5.given.1 ∙ extras-passed c.before.before.before
+returns-3 : tie.Need-returns-in-Refused-v-2
+returns-3 c = append-stop _ _ _ c.flags_verdict-v.ensures _ c.in-Refused-v-2.is ∙ extras-passed c.before.before
 
-returns-4 : tie.Need-returns-4
-returns-4 c = append-stop _ _ _ c.before.before.images-verdict.ensures _ c.enum-told7.given.1 ∙ flags-passed c.before.before.before
+returns-4 : tie.Need-returns-in-Refused-v-3
+returns-4 c = append-stop _ _ _ c.images_verdict-v.ensures _ c.in-Refused-v-3.is ∙ flags-passed c.before.before
 
-returns-5 : tie.Need-returns-5
-returns-5 c = c.strings-verdict.ensures ∙ images-passed c.before
+returns-5 : tie.Need-returns
+returns-5 c = c.strings_verdict.ensures ∙ images-passed c.before
 
-pub contents-verdict-spec : {M : Type 1} → statement M
-contents-verdict-spec = tie.close (tie.spec (search rules) (search rules) returns (search rules) (search rules)
+pub contents_verdict_spec : {M : Type 1} → statement M
+contents_verdict_spec = tie.close (tie.spec (search rules) (search rules) returns (search rules) (search rules)
     (search rules) returns-2 (search rules) (search rules) (search rules) returns-3 (search rules) (search rules)
     (search rules) returns-4 (search rules) (search rules) returns-5)

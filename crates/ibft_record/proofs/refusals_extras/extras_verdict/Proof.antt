@@ -6,13 +6,14 @@ use borrow.Author.Rules.{rules}
 use Rattle.ibft_record.proofs.refusals_extras.extras_verdict.Statement.{statement}
 use Rattle.ibft_record.proofs.refusals_extras.extras_verdict.Tie as tie
 
-returns : tie.Need-returns
+returns : tie.Need-returns-in-Refused
 unfolding extras_tests
-returns c = append-stop _ _ _ c.before.before.nics-verdict.ensures _ c.enum_told.given.1
+returns c = append-stop _ _ _ c.nics_verdict-v.ensures _ c.in-Refused.is
 
-returns-2 : tie.Need-returns-2
+returns-2 : tie.Need-returns
 unfolding extras_tests
-returns-2 c = c.targets-verdict.ensures ∙ append-go _ _ _ c.before.before.before.nics-verdict.ensures c.before.enum-told2.given.1
+returns-2 c = c.targets_verdict.ensures ∙ append-go _ _ _ c.nics_verdict-v.ensures c.in_default.is
 
-pub extras-verdict-spec : {M : Type 1} → statement M
-extras-verdict-spec = tie.close (tie.spec (search rules) (search rules) returns (search rules) (search rules) returns-2)
+pub extras_verdict_spec : {M : Type 1} → statement M
+extras_verdict_spec = tie.close (tie.spec (search rules) (search rules) returns (search rules) (search rules)
+    returns-2)

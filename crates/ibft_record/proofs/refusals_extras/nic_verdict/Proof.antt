@@ -8,10 +8,8 @@ use Rattle.ibft_record.proofs.refusals_extras.nic_verdict.Tie as tie
 returns : tie.Need-returns
 unfolding index_tests
 returns c =
-    let at-nic-image2 = c.before in
-    let at-one-before = at-nic-image2.before in
-    let at-nic-image = at-one-before.before in
-    c.index-verdict.ensures ∙ rw (at-nic-image2.nic-image2.ensures.0, at-nic-image.nic-image.ensures.0, at-one-before.one-before.ensures)
+    c.index_verdict.ensures ∙ rw (c.nic_image-2.ensures.0, c.nic_image.ensures.0, c.one_before.ensures)
 
-pub nic-verdict-spec : {M : Type 1} → statement M
-nic-verdict-spec = tie.close (tie.spec (search rules) (search rules) (search rules) (search rules) (search rules) returns)
+pub nic_verdict_spec : {M : Type 1} → statement M
+nic_verdict_spec = tie.close (tie.spec (search rules) (search rules) (search rules) (search rules) (search rules)
+    returns)

@@ -8,18 +8,14 @@ use Rattle.ibft_record.proofs.refusals_extras.target_verdict.Tie as tie
 returns : tie.Need-returns
 unfolding index_tests
 returns c =
-    let at-nics-given = c.before in
-    let at-target-image2 = at-nics-given.before in
-    let at-one-before = at-target-image2.before in
-    let at-target-image = at-one-before.before in
-    c.index-verdict.ensures
+    c.index_verdict.ensures
     ∙ rw (
-      at-nics-given.nics-given.ensures,
-      at-target-image2.target-image2.ensures.0,
-      at-one-before.one-before.ensures,
-      at-target-image.target-image.ensures.0,
+      c.nics_given.ensures,
+      c.target_image-2.ensures.0,
+      c.one_before.ensures,
+      c.target_image.ensures.0,
     )
 
-pub target-verdict-spec : {M : Type 1} → statement M
-target-verdict-spec = tie.close (tie.spec (search rules) (search rules) (search rules) (search rules) (search rules)
+pub target_verdict_spec : {M : Type 1} → statement M
+target_verdict_spec = tie.close (tie.spec (search rules) (search rules) (search rules) (search rules) (search rules)
     (search rules) (search rules) (search rules) returns)

@@ -12,54 +12,43 @@ use borrow.Author.Rules.{rules}
 use Rattle.ibft_record.proofs.refusals_extras.targets_verdict.Statement.{statement}
 use Rattle.ibft_record.proofs.refusals_extras.targets_verdict.Tie as tie
 
-abbrev invariant-loop : tie.invariant-loop
+abbrev invariant-loop : tie.invariant-loop-i
 invariant-loop range targets i₀ i = (i ≤ targets)
     × (first_of (gather (index_tests range (target_image range) (extra_nics + nics_given range)) i (targets - i))
     ≡ first_of (gather (index_tests range (target_image range) (extra_nics + nics_given range)) 0 (targets_given range)))
 
-abbrev decreases-loop : tie.decreases-loop
+abbrev decreases-loop : tie.decreases-loop-i
 decreases-loop range targets i₀ i = targets - i
 
-loop-holds : tie.Need-loop-init invariant-loop decreases-loop
+loop-holds : tie.Need-loop-i-init invariant-loop decreases-loop
 loop-holds c =
-    let r = c.before.before.args.range.now in
-    let all : c.targets-given.result - 0 ≡ targets_given r = omega arith in
+    let r = c.args.range.now in
+    let all : c.targets_given-targets.result - 0 ≡ targets_given r = omega arith in
     (search rules, ap (λ (n : ℕ). first_of (gather (index_tests r (target_image r) (extra_nics + nics_given r)) 0 n)) all)
 
-returns : tie.Need-returns invariant-loop decreases-loop
+returns : tie.Need-returns-in-Refused invariant-loop decreases-loop
 returns c =
-    let at-target-verdict = c.before.before in
-    let at-loop = at-target-verdict.before.before in
-    let at-targets-given = at-loop.before in
-    let at-start = at-targets-given.before.before in
-    let r = at-start.args.range.now in
-    let l = at-loop.loop in
-    gather-stop (index_tests r (target_image r) (extra_nics + nics_given r)) at-targets-given.targets-given.result l.i
-    (omega arith) _ at-target-verdict.target-verdict.ensures _ c.enum_told.given.1 ∙ l.invariant.1
+    let r = c.args.range.now in
+    let l = c.loop-i in
+    gather-stop (index_tests r (target_image r) (extra_nics + nics_given r)) c.targets_given-targets.result l.i
+    (omega arith) _ c.target_verdict-v.ensures _ c.in-Refused.is ∙ l.invariant.1
 
-loop-again : tie.Need-loop-preserved invariant-loop decreases-loop
+loop-again : tie.Need-loop-i-preserved invariant-loop decreases-loop
 loop-again c =
-    let at-target-verdict = c.before.before in
-    let at-loop = at-target-verdict.before.before in
-    let at-targets-given = at-loop.before in
-    let at-start = at-targets-given.before.before in
-    let r = at-start.args.range.now in
-    let l = at-loop.loop in (
+    let r = c.args.range.now in
+    let l = c.loop-i in (
       search rules,
       gather-go (index_tests r (target_image r) (extra_nics + nics_given r))
-          at-targets-given.targets-given.result l.i (omega arith) _ at-target-verdict.target-verdict.ensures
-          c.enum-told2.given.1 ∙ l.invariant.1,
+          c.targets_given-targets.result l.i (omega arith) _ c.target_verdict-v.ensures
+          c.in_default.is ∙ l.invariant.1,
     )
 
-returns-2 : tie.Need-returns-2 invariant-loop decreases-loop
+returns-2 : tie.Need-returns invariant-loop decreases-loop
 returns-2 c =
-    let at-loop = c.before in
-    let at-targets-given = at-loop.before in
-    let at-start = at-targets-given.before.before in
-    let r = at-start.args.range.now in
-    sym (gather-end (index_tests r (target_image r) (extra_nics + nics_given r)) at-targets-given.targets-given.result
-    at-loop.loop.i (omega arith)) ∙ at-loop.loop.invariant.1
+    let r = c.args.range.now in
+    sym (gather-end (index_tests r (target_image r) (extra_nics + nics_given r)) c.targets_given-targets.result
+    c.loop-i.i (omega arith)) ∙ c.loop-i.invariant.1
 
-pub targets-verdict-spec : {M : Type 1} → statement M
-targets-verdict-spec = tie.close (tie.spec invariant-loop decreases-loop (search rules) loop-holds (search rules) (search rules) returns
-    (search rules) (search rules) (search rules) loop-again returns-2)
+pub targets_verdict_spec : {M : Type 1} → statement M
+targets_verdict_spec = tie.close (tie.spec invariant-loop decreases-loop (search rules) loop-holds (search rules)
+    (search rules) returns (search rules) (search rules) (search rules) loop-again returns-2)

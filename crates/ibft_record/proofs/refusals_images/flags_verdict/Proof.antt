@@ -8,13 +8,13 @@ use borrow.Author.Rules.{rules}
 use Rattle.ibft_record.proofs.refusals_images.flags_verdict.Statement.{statement}
 use Rattle.ibft_record.proofs.refusals_images.flags_verdict.Tie as tie
 
-returns : tie.Need-returns
+returns : tie.Need-returns-then-byte_at-ne0
 unfolding first_of flags_tests reserved_set
-returns c = c.refuse.ensures ∙ sym (rw (← c.before.before.byte_at.ensures, ne_eqb _ _ c.before.if1.true))
+returns c = c.refuse.ensures ∙ sym (rw (← c.byte_at.ensures, ne_eqb _ _ c.if-byte_at-ne0.true))
 
-returns-2 : tie.Need-returns-2
+returns-2 : tie.Need-returns
 unfolding first_of flags_tests reserved_set
-returns-2 c = sym (rw (← c.before.byte_at.ensures, c.if1.false))
+returns-2 c = sym (rw (← c.byte_at.ensures, c.if-byte_at-ne0.false))
 
-pub flags-verdict-spec : {M : Type 1} → statement M
-flags-verdict-spec = tie.close (tie.spec (search rules) (search rules) (search rules) returns returns-2)
+pub flags_verdict_spec : {M : Type 1} → statement M
+flags_verdict_spec = tie.close (tie.spec (search rules) (search rules) (search rules) returns returns-2)

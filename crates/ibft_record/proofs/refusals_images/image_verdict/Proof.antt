@@ -19,82 +19,74 @@ use Rattle.ibft_record.proofs.refusals_images.image_verdict.Tie as tie
 abbrev reserved : tie.Start → Bool
 reserved s = reserved_set (byte s.args.range.now (image_at s.args.range.now s.args.k + 5)) (kind_of s.args.k)
 
-given : (c : tie.Else1) → structure_given c.before.before.before.args.range.now c.before.before.before.args.k ≡ true
-given c = sym c.before.structure-given.ensures ∙ not-false _ c.if1.false
+given : (c : tie.Else-not-structure_given) → structure_given c.args.range.now c.args.k ≡ true
+given c = sym c.structure_given.ensures ∙ c.if-not-structure_given.false
 
 -- what the calls answer, as the tests have it
-reserved-is : (c : tie.After-byte-at) → differs (bit_and c.byte_at.result c.before.kind-of.result.reserved) 0
+reserved-is : (c : tie.After-byte_at) → differs (bit_and c.byte_at.result c.kind_of-kind.result.reserved) 0
     ≡ reserved c.before.before.before.before.before.before
 unfolding reserved_set
-reserved-is c = rw (c.byte_at.ensures, c.before.before.image-at.ensures.0, c.before.kind-of.ensures)
+reserved-is c = rw (c.byte_at.ensures, c.image_at-image.ensures.0, c.kind_of-kind.ensures)
 
-chap-is : (c : tie.After-kind-of) → c.kind-of.result.chap ≡ (kind_of c.before.before.before.before.before.args.k).chap
-chap-is c = ap (λ (kind : Shape). kind.chap) c.kind-of.ensures
+chap-is : (c : tie.After-kind_of-kind) → c.kind_of-kind.result.chap ≡ (kind_of c.args.k).chap
+chap-is c = ap (λ (kind : Shape). kind.chap) c.kind_of-kind.ensures
 
-type-is : (c : tie.After-byte-at2) → c.byte-at2.result
-    ≡ byte c.before.before.before.before.before.before.before.before.before.before.before.args.range.now
-    (image_at c.before.before.before.before.before.before.before.before.before.before.before.args.range.now
-    c.before.before.before.before.before.before.before.before.before.before.before.args.k + chap_at)
+type-is : (c : tie.After-byte_at-2) → c.byte_at-2.result
+    ≡ byte c.args.range.now
+    (image_at c.args.range.now
+    c.args.k + chap_at)
 type-is c =
-    let at-image-at = c.before.before.before.before.before.before.before in
-    let at-start = at-image-at.before.before.before.before in
-    c.byte-at2.ensures ∙ ap (λ (image : ℕ). byte at-start.args.range.now (image + chap_at)) at-image-at.image-at.ensures.0
+    c.byte_at-2.ensures ∙ ap (λ (image : ℕ). byte c.args.range.now (image + chap_at)) c.image_at-image.ensures.0
 
-named : (c : tie.Else2) → reserved c.before.before.before.before.before.before.before.before ≡ false
-named c = rw (← reserved-is c.before.before, c.if2.false)
+named : (c : tie.Else-byte_at-kind-ne0) → reserved c.before.before.before.before.before.before.before.before ≡ false
+named c = rw (← reserved-is c.before.before, c.if-byte_at-kind-ne0.false)
 
-returns : tie.Need-returns
+returns : tie.Need-returns-then-not-structure_given
 unfolding first_of image_tests
-returns c = sym (rw (sym c.before.structure-given.ensures ∙ not-true _ c.if1.true))
+returns c = sym (rw (sym c.structure_given.ensures ∙ c.if-not-structure_given.true))
 
-returns-2 : tie.Need-returns-2
+returns-2 : tie.Need-returns-then-byte_at-kind-ne0
 unfolding first_of image_tests
 returns-2 c =
-    let at-slot-number = c.before in
-    let at-if2 = at-slot-number.before in
-    rw at-slot-number.slot-number.ensures at c.refuse.ensures
+    rw c.slot_number.ensures at c.refuse.ensures
     ∙ sym (rw (
-      given at-if2.before.before.before.before.before,
-      ← reserved-is at-if2.before.before,
-      ne_eqb _ _ at-if2.if2.true,
+      given c.before.before.before.before.before.before.before,
+      ← reserved-is c.before.before.before.before,
+      ne_eqb _ _ c.if-byte_at-kind-ne0.true,
     ))
 
-returns-3 : tie.Need-returns-3
+returns-3 : tie.Need-returns-then-not-kind
 unfolding first_of image_tests
 returns-3 c = sym (rw (
   given c.before.before.before.before.before.before.before,
   named c.before.before,
-  sym (chap-is c.before.before.before.before.before) ∙ not-true _ c.if3.true,
+  sym (chap-is c.before.before.before.before.before) ∙ not-true _ c.if-not-kind.true,
 ))
 
-returns-4 : tie.Need-returns-4
+returns-4 : tie.Need-returns-then-byte_at-gt-CHAP_LAST
 unfolding first_of image_tests
 returns-4 c =
-    let at-slot-number2 = c.before in
-    let at-if4 = at-slot-number2.before in
-    let at-if3 = at-if4.before.before in
-    rw at-slot-number2.slot-number2.ensures at c.refuse2.ensures
+    rw c.slot_number-then-byte_at-gt-CHAP_LAST.ensures at c.refuse-then-byte_at-gt-CHAP_LAST.ensures
     ∙ sym (rw (
-      given at-if3.before.before.before.before.before.before.before,
-      named at-if3.before.before,
-      sym (chap-is at-if3.before.before.before.before.before) ∙ not-false _ at-if3.if3.false,
-      ← type-is at-if4.before,
-      lt-ltb _ _ at-if4.if4.true,
+      given c.before.before.before.before.before.before.before.before.before.before.before,
+      named c.before.before.before.before.before.before,
+      sym (chap-is c.before.before.before.before.before.before.before.before.before) ∙ not-false _ c.if-not-kind.false,
+      ← type-is c.before.before.before,
+      lt-ltb _ _ c.if-byte_at-gt-CHAP_LAST.true,
     ))
 
-returns-5 : tie.Need-returns-5
+returns-5 : tie.Need-returns
 unfolding first_of image_tests
 returns-5 c =
-    let at-if3 = c.before.before in
     sym (rw (
-      given at-if3.before.before.before.before.before.before.before,
-      named at-if3.before.before,
-      sym (chap-is at-if3.before.before.before.before.before) ∙ not-false _ at-if3.if3.false,
+      given c.before.before.before.before.before.before.before.before.before,
+      named c.before.before.before.before,
+      sym (chap-is c.before.before.before.before.before.before.before) ∙ not-false _ c.if-not-kind.false,
       ← type-is c.before,
-      le-ltb _ _ c.if4.false,
+      le-ltb _ _ c.if-byte_at-gt-CHAP_LAST.false,
     ))
 
-pub image-verdict-spec : {M : Type 1} → statement M
-image-verdict-spec = tie.close (tie.spec (search rules) returns (search rules) (search rules) (search rules) (search rules)
-    (search rules) (search rules) (search rules) (search rules) (search rules) returns-2 returns-3 (search rules)
-    (search rules) (search rules) (search rules) (search rules) (search rules) returns-4 returns-5)
+pub image_verdict_spec : {M : Type 1} → statement M
+image_verdict_spec = tie.close (tie.spec (search rules) returns (search rules) (search rules) (search rules)
+    (search rules) (search rules) (search rules) (search rules) (search rules) (search rules) returns-2 returns-3
+    (search rules) (search rules) (search rules) (search rules) (search rules) (search rules) returns-4 returns-5)

@@ -13,34 +13,31 @@ use borrow.Author.Rules.{rules}
 use Rattle.ibft_record.proofs.refusals_range.has_bad_mark.Statement.{statement}
 use Rattle.ibft_record.proofs.refusals_range.has_bad_mark.Tie as tie
 
-abbrev invariant-loop : tie.invariant-loop
+abbrev invariant-loop : tie.invariant-loop-i
 invariant-loop range at count i₀ i = (i ≤ count) × ((j : ℕ) → j < i → ltb 1 (byte range (at + j)) ≡ false)
 
-abbrev decreases-loop : tie.decreases-loop
+abbrev decreases-loop : tie.decreases-loop-i
 decreases-loop range at count i₀ i = count - i
 
-loop-holds : tie.Need-loop-init invariant-loop decreases-loop
+loop-holds : tie.Need-loop-i-init invariant-loop decreases-loop
 loop-holds c = (search rules, λ j h. absurd (omega arith))
 
-returns : tie.Need-returns invariant-loop decreases-loop
+returns : tie.Need-returns-then-byte_at-gt1 invariant-loop decreases-loop
 unfolding bad_mark
 returns c =
-    let at-byte-at = c.before in
-    let at-loop-test = at-byte-at.before in
-    let at-loop = at-loop-test.before in
-    sym (any-yes _ _ at-loop.loop.i at-loop-test.loop-test.true (sym (ap (ltb 1) at-byte-at.byte_at.ensures) ∙ lt-ltb _ _ c.if1.true))
+    sym (any-yes _ _ c.loop-i.i c.loop-i-test.true (sym (ap (ltb 1) c.byte_at.ensures) ∙ lt-ltb _ _ c.if-byte_at-gt1.true))
 
-loop-again : tie.Need-loop-preserved invariant-loop decreases-loop
+loop-again : tie.Need-loop-i-preserved invariant-loop decreases-loop
 loop-again c = (
   search rules,
-  below_more _ _ c.before.before.before.loop.invariant.1
-      (sym (ap (ltb 1) c.before.byte_at.ensures) ∙ le-ltb _ _ c.if1.false),
+  below_more _ _ c.loop-i.invariant.1
+      (sym (ap (ltb 1) c.byte_at.ensures) ∙ le-ltb _ _ c.if-byte_at-gt1.false),
 )
 
-returns-2 : tie.Need-returns-2 invariant-loop decreases-loop
+returns-2 : tie.Need-returns invariant-loop decreases-loop
 unfolding bad_mark
-returns-2 c = sym (any-no _ _ (λ j h. c.before.loop.invariant.1 j (omega arith)))
+returns-2 c = sym (any-no _ _ (λ j h. c.loop-i.invariant.1 j (omega arith)))
 
-pub has-bad-mark-spec : {M : Type 1} → statement M
-has-bad-mark-spec = tie.close (tie.spec invariant-loop decreases-loop loop-holds (search rules) (search rules) (search rules) returns
-    (search rules) (search rules) loop-again returns-2)
+pub has_bad_mark_spec : {M : Type 1} → statement M
+has_bad_mark_spec = tie.close (tie.spec invariant-loop decreases-loop loop-holds (search rules) (search rules)
+    (search rules) returns (search rules) (search rules) loop-again returns-2)

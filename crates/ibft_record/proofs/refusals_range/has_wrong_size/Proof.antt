@@ -10,13 +10,13 @@ use borrow.Author.Rules.{rules}
 use Rattle.ibft_record.proofs.refusals_range.has_wrong_size.Statement.{statement}
 use Rattle.ibft_record.proofs.refusals_range.has_wrong_size.Tie as tie
 
-returns : tie.Need-returns
-returns c = simp (eq-eqb (length c.before.before.args.range.now) base_size (omega arith))
+returns : tie.Need-returns-then-range
+returns c = simp (eq-eqb (length c.args.range.now) base_size (omega arith))
 
-returns-2 : tie.Need-returns-2
+returns-2 : tie.Need-returns
 returns-2 c =
-    let r = c.before.before.before.args.range.now in
+    let r = c.args.range.now in
     simp (ne_eqb (length r) base_size (omega arith)) (ap (λ (n : ℕ). differs (length r) n) c.range_size.ensures)
 
-pub has-wrong-size-spec : {M : Type 1} → statement M
-has-wrong-size-spec = tie.close (tie.spec (search rules) returns (search rules) (search rules) returns-2)
+pub has_wrong_size_spec : {M : Type 1} → statement M
+has_wrong_size_spec = tie.close (tie.spec (search rules) returns (search rules) (search rules) returns-2)

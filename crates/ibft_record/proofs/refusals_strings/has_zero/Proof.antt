@@ -9,21 +9,22 @@ use borrow.Author.Rules.{rules}
 use Rattle.ibft_record.proofs.refusals_strings.has_zero.Statement.{statement}
 use Rattle.ibft_record.proofs.refusals_strings.has_zero.Tie as tie
 
-abbrev invariant-loop : tie.invariant-loop
+abbrev invariant-loop : tie.invariant-loop-i
 invariant-loop s found₀ i₀ found i = (i ≤ length s) × ((found || has_zero (drop i s)) ≡ has_zero s)
 
-abbrev decreases-loop : tie.decreases-loop
+abbrev decreases-loop : tie.decreases-loop-i
 decreases-loop s found₀ i₀ found i = length s - i
 
-loop-again : tie.Need-loop-preserved invariant-loop decreases-loop
+loop-again : tie.Need-loop-i-preserved invariant-loop decreases-loop
 loop-again c =
-    let l = c.before.before.loop in
-    (search rules, or_assoc l.found _ _ ∙ ap (λ (b : Bool). l.found || b) (sym (has-zero-step _ l.i c.before.loop-test.true)) ∙ l.invariant.1)
+    let l = c.loop-i in
+    (search rules, or_assoc l.found _ _ ∙ ap (λ (b : Bool). l.found || b) (sym (has-zero-step _ l.i c.loop-i-test.true)) ∙ l.invariant.1)
 
 returns : tie.Need-returns invariant-loop decreases-loop
 returns c =
-    let l = c.before.loop in
-    sym (or-false l.found) ∙ ap (λ (b : Bool). l.found || b) (sym (has-zero-end _ l.i c.loop-test.false)) ∙ l.invariant.1
+    let l = c.loop-i in
+    sym (or-false l.found) ∙ ap (λ (b : Bool). l.found || b) (sym (has-zero-end _ l.i c.loop-i-test.false)) ∙ l.invariant.1
 
-pub has-zero-spec : {M : Type 1} → statement M
-has-zero-spec = tie.close (tie.spec invariant-loop decreases-loop (search rules) (search rules) (search rules) (search rules) loop-again returns)
+pub has_zero_spec : {M : Type 1} → statement M
+has_zero_spec = tie.close (tie.spec invariant-loop decreases-loop (search rules) (search rules) (search rules)
+    (search rules) loop-again returns)
