@@ -29,40 +29,30 @@ compared left right refusal side count v ev er es ec =
     let whole = er ∙ ap refusal_of (sym ev) in
     λ i. record { refusal = whole i; side = es i; count = ec i }
 
-returns : tie.Need-returns
+returns : tie.Need-returns-in-Accepted
 unfolding refusal_of
 returns c =
-    let at-enum-told = c.before in
-    let at-judge = at-enum-told.before.before in
-    let at-shared-slice-known2 = at-judge.before in
-    let at-shared-slice-known = at-shared-slice-known2.before in
-    let s = at-shared-slice-known.before in
-    let left = s.args.left.now in
-    let right = s.args.right.now in
-    let lefts = at-shared-slice-known.shared-slice-known.given in
-    let rights = at-shared-slice-known2.shared-slice-known2.given in
-    let judged = at-judge.judge.ensures in
-    let accepted : verdict_of left right ≡ Accepted = sym judged.0 ∙ at-enum-told.enum_told.given.1 in
+    let left = c.args.left.now in
+    let right = c.args.right.now in
+    let lefts = c.shared_slice_known-1.given in
+    let rights = c.shared_slice_known-2-1.given in
+    let judged = c.judge-judged.ensures in
+    let accepted : verdict_of left right ≡ Accepted = sym judged.0 ∙ c.in-Accepted.is in
     let count = ap (λ (m : Met). m.count) (c.meet_all.ensures ∙ walked-is left right 0 (points (pairs_in (indices_of left) (indices_of right)))) in
     compares left right (λ i. omega (arith, lefts i)) (λ i. omega (arith, rights i)) _
     (compared left right _ _ _ Accepted accepted refl judged.1 (count ∙ sym (ap (λ (ps : List Point). length ps) (list-accepted left right accepted))))
 
-returns-2 : tie.Need-returns-2
+returns-2 : tie.Need-returns-in-Refused
 unfolding refusal_of
 returns-2 c =
-    let at-verdict = c.before in
-    let at-judge = at-verdict.before.before in
-    let at-shared-slice-known2 = at-judge.before in
-    let at-shared-slice-known = at-shared-slice-known2.before in
-    let s = at-shared-slice-known.before in
-    let left = s.args.left.now in
-    let right = s.args.right.now in
-    let lefts = at-shared-slice-known.shared-slice-known.given in
-    let rights = at-shared-slice-known2.shared-slice-known2.given in
-    let judged = at-judge.judge.ensures in
-    let refused = sym judged.0 ∙ at-verdict.verdict.given.1 in
+    let left = c.args.left.now in
+    let right = c.args.right.now in
+    let lefts = c.shared_slice_known-1.given in
+    let rights = c.shared_slice_known-2-1.given in
+    let judged = c.judge-judged.ensures in
+    let refused = sym judged.0 ∙ c.in-Refused.is in
     compares left right (λ i. omega (arith, lefts i)) (λ i. omega (arith, rights i)) _
     (compared left right _ _ _ (Refused _) refused refl judged.1 (sym (ap (λ (ps : List Point). length ps) (list-refused left right _ refused))))
 
-pub compare-spec : {M : Type 1} → statement M
-compare-spec = tie.close (tie.spec (search rules) (search rules) (search rules) (search rules) returns returns-2)
+pub compare_spec : {M : Type 1} → statement M
+compare_spec = tie.close (tie.spec (search rules) (search rules) (search rules) (search rules) returns returns-2)

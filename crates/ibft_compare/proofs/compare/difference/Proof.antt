@@ -65,61 +65,47 @@ drop-none : (k : ℕ) → drop {A = Point} k [] ≡ []
 drop-none zero = refl
 drop-none (suc k) = refl
 
-shown-of-requires : tie.Need-shown-of-requires
+shown-of-requires : tie.Need-shown_of-shown-requires
 shown-of-requires c κs =
-    let at-meet-all = c.before.before in
-    let at-enum-told = at-meet-all.before in
-    let at-judge = at-enum-told.before.before in
-    let at-shared-slice-known = at-judge.before.before in
-    let at-start = at-shared-slice-known.before in
-    let a = at-start.args in
+    let a = c.args in
     let left = a.left.now in
     let right = a.right.now in
-    let lefts = at-shared-slice-known.shared-slice-known.given in
-    let accepted : verdict_of left right ≡ Accepted = sym at-judge.judge.ensures.0 ∙ at-enum-told.enum_told.given.1 in
-    let met = at-meet-all.meet_all in
+    let lefts = c.shared_slice_known-1.given in
+    let accepted : verdict_of left right ≡ Accepted = sym c.judge-judged.ensures.0 ∙ c.in-Accepted.is in
+    let met = c.meet_all-met in
     rw (same left right a.k accepted met.result met.ensures, same_left left right a.k accepted met.result met.ensures)
     (shown-start left right (λ i. omega (arith, lefts i)) (drop a.k (list_of left right)))
 
-returns : tie.Need-returns
+returns : tie.Need-returns-in-Accepted
 unfolding refusal_of
 returns c =
-    let at-meet-all = c.before.before.before in
-    let at-enum-told = at-meet-all.before in
-    let at-judge = at-enum-told.before.before in
-    let at-start = at-judge.before.before.before in
-    let a = at-start.args in
+    let a = c.args in
     let left = a.left.now in
     let right = a.right.now in
-    let judged = at-judge.judge.ensures in
-    let accepted : verdict_of left right ≡ Accepted = sym judged.0 ∙ at-enum-told.enum_told.given.1 in
-    let met = at-meet-all.meet_all in
+    let judged = c.judge-judged.ensures in
+    let accepted : verdict_of left right ≡ Accepted = sym judged.0 ∙ c.in-Accepted.is in
+    let met = c.meet_all-met in
     read left right a.k _ _ _ _ _ _ Accepted accepted refl judged.1
     (same left right a.k accepted met.result met.ensures)
     (same_left left right a.k accepted met.result met.ensures)
     (same-right left right a.k accepted met.result met.ensures)
-    (c.Shown-of.ensures ∙ same-shown left right a.k accepted met.result met.ensures)
+    (c.shown_of-shown.ensures ∙ same-shown left right a.k accepted met.result met.ensures)
 
-returns-2 : tie.Need-returns-2
+returns-2 : tie.Need-returns-in-Refused
 unfolding refusal_of shown_of first_name first_stretch
 returns-2 c =
-    let at-no-stretch2 = c.before in
-    let at-no-stretch = at-no-stretch2.before in
-    let at-verdict = at-no-stretch.before.before in
-    let at-judge = at-verdict.before.before in
-    let at-start = at-judge.before.before.before in
-    let a = at-start.args in
+    let a = c.args in
     let left = a.left.now in
     let right = a.right.now in
-    let judged = at-judge.judge.ensures in
-    let refused = sym judged.0 ∙ at-verdict.verdict.given.1 in
+    let judged = c.judge-judged.ensures in
+    let refused = sym judged.0 ∙ c.in-Refused.is in
     let none : drop a.k (list_of left right) ≡ [] = ap (drop a.k) (list-refused left right _ refused) ∙ drop-none a.k in
     read left right a.k _ _ _ _ _ _ (Refused _) refused refl judged.1
     (ap first_name (sym none))
-    (at-no-stretch.no-stretch.ensures ∙ ap (first_stretch (left_stretch left)) (sym none))
-    (at-no-stretch2.no-stretch2.ensures ∙ ap (first_stretch (right_stretch right)) (sym none))
-    (c.no-stretch3.ensures ∙ ap (first_stretch (shown_stretch left right)) (sym none))
+    (c.no_stretch.ensures ∙ ap (first_stretch (left_stretch left)) (sym none))
+    (c.no_stretch-in-Refused.ensures ∙ ap (first_stretch (right_stretch right)) (sym none))
+    (c.no_stretch-in-Refused-2.ensures ∙ ap (first_stretch (shown_stretch left right)) (sym none))
 
-pub difference-spec : {M : Type 1} → statement M
-difference-spec = tie.close (tie.spec (search rules) (search rules) (search rules) shown-of-requires (search rules)
+pub difference_spec : {M : Type 1} → statement M
+difference_spec = tie.close (tie.spec (search rules) (search rules) (search rules) shown-of-requires (search rules)
     (search rules) (search rules) (search rules) returns returns-2)

@@ -18,13 +18,11 @@ use Rattle.ibft_compare.proofs.compare.difference_view.Tie as tie
 returns : tie.Need-returns
 unfolding difference_of view_of
 returns c =
-    let at-difference = c.before.before.before.before in
-    let at-start = at-difference.before.before.before in
-    let a = at-start.args in
+    let a = c.args in
     let left = a.left.now in
     let right = a.right.now in
     let s = shown_of left right a.k in
-    let is = ap (λ (d : DifferenceReading). d.shown) at-difference.difference.ensures in
+    let is = ap (λ (d : DifferenceReading). d.shown) c.difference.ensures in
     let start = ap (λ (x : Stretch). x.start) is in
     let size = ap (λ (x : Stretch). x.length) is in
     let bytes : c.part.result.now ≡ part left s.start s.length = c.part.ensures.bytes ∙ ap₂ (part left) start size in
@@ -35,5 +33,5 @@ returns c =
       empty = λ z. ⊎_elim (λ e. bytes ∙ ap (part left s.start) e.1 ∙ part_none left s.start) (λ e. absurd (e.0 z)) (shown-lies left right a.k);
     }
 
-pub difference-view-spec : {M : Type 1} → statement M
-difference-view-spec = tie.close (tie.spec (search rules) (search rules) (search rules) (search rules) returns)
+pub difference_view_spec : {M : Type 1} → statement M
+difference_view_spec = tie.close (tie.spec (search rules) (search rules) (search rules) (search rules) returns)

@@ -5,31 +5,26 @@ use borrow.Author.Rules.{rules}
 use Rattle.ibft_compare.proofs.compare.judge.Statement.{statement}
 use Rattle.ibft_compare.proofs.compare.judge.Tie as tie
 
-returns : tie.Need-returns
+returns : tie.Need-returns-in-Refused
 unfolding both_verdict side_of verdict_of
 returns c =
-    let left = sym c.before.before.check.ensures.verdict-is ∙ c.enum_told.given.1 in
-    (rw left c.enum_told.given.1, rw left)
+    let left = sym c.check-verdict.ensures.verdict-is ∙ c.in-Refused.is in
+    (rw left c.in-Refused.is, rw left)
 
-returns-2 : tie.Need-returns-2
+returns-2 : tie.Need-returns-in-Accepted
 unfolding both_verdict side_of verdict_of
 returns-2 c =
-    let at-check2 = c.before.before in
-    let at-enum-told2 = at-check2.before in
-    let at-check = at-enum-told2.before.before in
-    let left = sym at-check.check.ensures.verdict-is ∙ at-enum-told2.enum-told2.given.1 in
-    let right = sym at-check2.check2.ensures.verdict-is ∙ c.enum-told3.given.1 in
-    (rw (left, right) c.enum-told3.given.1, rw (left, right))
+    let left = sym c.check-verdict.ensures.verdict-is ∙ c.in_default.is in
+    let right = sym c.check-verdict-2.ensures.verdict-is ∙ c.in-Accepted.is in
+    (rw (left, right) c.in-Accepted.is, rw (left, right))
 
-returns-3 : tie.Need-returns-3
+returns-3 : tie.Need-returns-in-Refused-verdict
 unfolding both_verdict side_of verdict_of
 returns-3 c =
-    let at-check2 = c.before.before in
-    let at-enum-told2 = at-check2.before in
-    let at-check = at-enum-told2.before.before in
-    let left = sym at-check.check.ensures.verdict-is ∙ at-enum-told2.enum-told2.given.1 in
-    let right = sym at-check2.check2.ensures.verdict-is ∙ c.enum-told4.given.1 in
-    (rw (left, right) c.enum-told4.given.1, rw (left, right))
+    let left = sym c.check-verdict.ensures.verdict-is ∙ c.in_default.is in
+    let right = sym c.check-verdict-2.ensures.verdict-is ∙ c.in-Refused-verdict.is in
+    (rw (left, right) c.in-Refused-verdict.is, rw (left, right))
 
-pub judge-spec : {M : Type 1} → statement M
-judge-spec = tie.close (tie.spec (search rules) (search rules) returns (search rules) (search rules) (search rules) (search rules) returns-2 returns-3)
+pub judge_spec : {M : Type 1} → statement M
+judge_spec = tie.close (tie.spec (search rules) (search rules) returns (search rules) (search rules) (search rules)
+    (search rules) returns-2 returns-3)

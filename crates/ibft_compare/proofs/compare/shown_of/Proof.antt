@@ -24,16 +24,16 @@ no-entry (Presence id index) shown k = refl
 no-entry (Field id index at) shown k = refl
 no-entry (Entry id index at) shown k = absurd (miss (0 ∷ 1 ∷ 2 ∷ 3 ∷ 4 ∷ 5 ∷ []) 6 tt k)
 
-unequal-part-requires : tie.Need-unequal-part-requires
+unequal-part-requires : tie.Need-unequal_part-requires
 unfolding shown_by
-unequal-part-requires c κs = rw c.enum_told.given.1 at c.before.before.before.before.requires
+unequal-part-requires c κs = rw c.in-Entry.is at c.requires
 
-returns : tie.Need-returns
+returns : tie.Need-returns-in-Entry
 unfolding shown_by
-returns c = rw c.before.enum_told.given.1 c.unequal-part.ensures
+returns c = rw c.in-Entry.is c.unequal_part.ensures
 
-returns-2 : tie.Need-returns-2
-returns-2 c = c.no-stretch.ensures ∙ no-entry _ _ c.before.match.keys2
+returns-2 : tie.Need-returns-in_default
+returns-2 c = c.no_stretch.ensures ∙ no-entry _ _ c.in_default.in_default-own.keys2
 
-pub shown-of-spec : {M : Type 1} → statement M
-shown-of-spec = tie.close (tie.spec (search rules) unequal-part-requires (search rules) returns returns-2)
+pub shown_of_spec : {M : Type 1} → statement M
+shown_of_spec = tie.close (tie.spec (search rules) unequal-part-requires (search rules) returns returns-2)

@@ -16,65 +16,57 @@ use Rattle.ibft_compare.proofs.compare.unequal_part.Statement.{statement}
 use Rattle.ibft_compare.proofs.compare.unequal_part.Tie as tie
 
 -- where the left string stands, and the two strings
-abbrev at : tie.After-first-unequal → Stretch
+abbrev at : tie.After-first_unequal-k → Stretch
 at c =
-    let at-start = c.before.before.before.before.before.before.before.before.before.before.before.before.before in
-    at-start.args.l
+    c.args.l
 
-abbrev x : tie.After-first-unequal → List ℕ
+abbrev x : tie.After-first_unequal-k → List ℕ
 x c =
-    let at-start = c.before.before.before.before.before.before.before.before.before.before.before.before.before in
-    part at-start.args.left.now (at c).start (at c).length
+    part c.args.left.now (at c).start (at c).length
 
-abbrev y : tie.After-first-unequal → List ℕ
+abbrev y : tie.After-first_unequal-k → List ℕ
 y c =
-    let at-start = c.before.before.before.before.before.before.before.before.before.before.before.before.before in
-    let a = at-start.args in
+    let a = c.args in
     part a.right.now a.r.start a.r.length
 
-same : (c : tie.After-first-unequal) → c.first-unequal.result ≡ first_unequal (x c) (y c)
-same c = c.first-unequal.ensures.0 ∙ ap₂ first_unequal c.before.before.before.before.part.ensures.bytes c.before.part2.ensures.bytes
+same : (c : tie.After-first_unequal-k) → c.first_unequal-k.result ≡ first_unequal (x c) (y c)
+same c = c.first_unequal-k.ensures.0 ∙ ap₂ first_unequal c.part.ensures.bytes c.part-2.ensures.bytes
 
-within : (c : tie.After-first-unequal) → c.first-unequal.result ≤ (at c).length
+within : (c : tie.After-first_unequal-k) → c.first_unequal-k.result ≤ (at c).length
 within c =
     let most : length (x c) ≤ (at c).length = part-most _ (at c).start (at c).length in
-    omega (arith, c.first-unequal.ensures.1, ap length c.before.before.before.before.part.ensures.bytes)
+    omega (arith, c.first_unequal-k.ensures.1, ap length c.part.ensures.bytes)
 
-returns : tie.Need-returns
+returns : tie.Need-returns-then-l-eq0
 unfolding part_shown
 returns c =
-    let at-if1 = c.before in
-    let at-start = at-if1.before.before.before.before in
-    rw (eq-eqb at-start.args.l.start 0 at-if1.if1.true) c.no-stretch.ensures
+    rw (eq-eqb c.args.l.start 0 c.if-l-eq0.true) c.no_stretch.ensures
 
-returns-2 : tie.Need-returns-2
+returns-2 : tie.Need-returns-then-r-eq0
 unfolding part_shown
 returns-2 c =
-    let at-if1 = c.before.before in
-    let at-start = at-if1.before.before.before.before in
-    let a = at-start.args in
-    rw (ne_eqb a.l.start 0 at-if1.if1.false, eq-eqb a.r.start 0 c.if2.true) refl
+    let a = c.args in
+    rw (ne_eqb a.l.start 0 c.if-l-eq0.false, eq-eqb a.r.start 0 c.if-r-eq0.true) refl
 
-cast-t13 : tie.Need-overflow-cast-t13
+cast-t13 : tie.Need-overflow_cast-result
 cast-t13 c = let w = within c in search rules
 
-add-t14 : tie.Need-overflow-add-t14
+add-t14 : tie.Need-overflow_add-result
 add-t14 c = let w = within c.before in search rules
 
-cast-t15 : tie.Need-overflow-cast-t15
+cast-t15 : tie.Need-overflow_cast-result-2
 cast-t15 c = let w = within c.before in search rules
 
-sub-t16 : tie.Need-overflow-sub-t16
+sub-t16 : tie.Need-overflow_sub-result
 sub-t16 c = let w = within c.before.before in search rules
 
-returns-3 : tie.Need-returns-3
+returns-3 : tie.Need-returns
 unfolding part_shown
 returns-3 c =
-    let tests = c.before.before.before.before.before.before.before.before.before in
-    let a = tests.before.before.before.before.before.before.args in
-    rw (ne_eqb a.l.start 0 tests.before.before.if1.false, ne_eqb a.r.start 0 tests.if2.false)
+    let a = c.args in
+    rw (ne_eqb a.l.start 0 c.if-l-eq0.false, ne_eqb a.r.start 0 c.if-r-eq0.false)
     (ap (λ (k : ℕ). stretch (a.l.start + k) (a.l.length - k)) (same c.before.before))
 
-pub unequal-part-spec : {M : Type 1} → statement M
-unequal-part-spec = tie.close (tie.spec (search rules) returns returns-2 (search rules) (search rules) (search rules)
+pub unequal_part_spec : {M : Type 1} → statement M
+unequal_part_spec = tie.close (tie.spec (search rules) returns returns-2 (search rules) (search rules) (search rules)
     (search rules) (search rules) (search rules) (search rules) cast-t13 add-t14 cast-t15 sub-t16 returns-3)

@@ -14,19 +14,19 @@ use borrow.Author.Rules.{rules}
 use Rattle.ibft_compare.proofs.pair.indices_of.Statement.{statement}
 use Rattle.ibft_compare.proofs.pair.indices_of.Tie as tie
 
-abbrev invariant-loop : tie.invariant-loop
+abbrev invariant-loop : tie.invariant-loop-k
 invariant-loop starts t indices₀ k₀ indices k =
     (k ≤ slot_count) × (length indices ≡ slot_count) × ((i : ℕ) → i < k → get_or indices i 0 ≡ index_in starts t i)
 
-abbrev decreases-loop : tie.decreases-loop
+abbrev decreases-loop : tie.decreases-loop-k
 decreases-loop starts t indices₀ k₀ indices k = slot_count - k
 
-loop-holds : tie.Need-loop-init invariant-loop decreases-loop
+loop-holds : tie.Need-loop-k-init invariant-loop decreases-loop
 loop-holds c = (search rules, search rules, below_none _)
 
-loop-again : tie.Need-loop-preserved invariant-loop decreases-loop
+loop-again : tie.Need-loop-k-preserved invariant-loop decreases-loop
 loop-again c =
-    let l = c.before.before.loop in
+    let l = c.loop-k in
     let v = c.index_in.result in (
       search rules,
       length-set l.indices l.k v ∙ l.invariant.1,
@@ -37,15 +37,13 @@ loop-again c =
 
 returns : tie.Need-returns invariant-loop decreases-loop
 returns c =
-    let at-loop = c.before in
-    let at-start = at-loop.before.before.before in
-    let l = at-loop.loop in
-    let a = at-start.args in
+    let l = c.loop-k in
+    let a = c.args in
     let t = a.t.now in
     let f : ℕ → ℕ = index_in (starts_of t) t in
     ext_get_or 0 l.indices (tabulate f 0 slot_count) (l.invariant.1 ∙ sym (length-tabulate f 0 slot_count))
-    (λ k h. l.invariant.2 k (omega arith) ∙ ap (λ (s : List ℕ). index_in s t k) at-start.requires ∙ sym (get_d_tabulate f slot_count k 0 (omega arith)))
+    (λ k h. l.invariant.2 k (omega arith) ∙ ap (λ (s : List ℕ). index_in s t k) c.requires ∙ sym (get_d_tabulate f slot_count k 0 (omega arith)))
 
-pub indices-of-spec : {M : Type 1} → statement M
-indices-of-spec = tie.close (tie.spec invariant-loop decreases-loop loop-holds (search rules) (search rules) (search rules) (search rules)
-    (search rules) (search rules) loop-again returns)
+pub indices_of_spec : {M : Type 1} → statement M
+indices_of_spec = tie.close (tie.spec invariant-loop decreases-loop loop-holds (search rules) (search rules)
+    (search rules) (search rules) (search rules) (search rules) loop-again returns)

@@ -26,48 +26,43 @@ passed-more indices group after next next' i x before less is own j h above =
           omega (arith, own (omega (arith, same, is)), same, is)
     ]
 
-abbrev invariant-loop : tie.invariant-loop
+abbrev invariant-loop : tie.invariant-loop-i
 invariant-loop li ri group after next₀ i₀ next i = (i ≤ extra_most) × (after < next) × (next ≤ 256) × Passed li group after next i × Passed ri group after next i
 
-abbrev decreases-loop : tie.decreases-loop
+abbrev decreases-loop : tie.decreases-loop-i
 decreases-loop li ri group after next₀ i₀ next i = extra_most - i
 
-loop-holds : tie.Need-loop-init invariant-loop decreases-loop
-loop-holds c = (omega arith, omega (arith, c.before.before.requires.1), omega arith, λ j h. absurd (omega arith), λ j h. absurd (omega arith))
+loop-holds : tie.Need-loop-i-init invariant-loop decreases-loop
+loop-holds c = (omega arith, omega (arith, c.requires.1), omega arith, λ j h. absurd (omega arith), λ j h. absurd (omega arith))
 
-add_at : tie.Need-overflow-add-at invariant-loop decreases-loop
-add_at c = omega (arith, c.before.before.before.before.requires.0, c.loop-test.true)
+add_at : tie.Need-overflow_add-at invariant-loop decreases-loop
+add_at c = omega (arith, c.requires.0, c.loop-i-test.true)
 
-nearer-requires : tie.Need-nearer-requires invariant-loop decreases-loop
-nearer-requires c κs = c.before.before.loop.invariant.1
+nearer-requires : tie.Need-nearer-nearest-requires invariant-loop decreases-loop
+nearer-requires c κs = c.loop-i.invariant.1
 
-nearer-requires-2 : tie.Need-nearer-requires-2 invariant-loop decreases-loop
-nearer-requires-2 c κs = c.before.nearer.ensures.0
+nearer-requires-2 : tie.Need-nearer-next-requires invariant-loop decreases-loop
+nearer-requires-2 c κs = c.nearer-nearest.ensures.0
 
-loop-again : tie.Need-loop-preserved invariant-loop decreases-loop
+loop-again : tie.Need-loop-i-preserved invariant-loop decreases-loop
 loop-again c =
-    let at-byte-at2 = c.before in
-    let at-nearer = at-byte-at2.before in
-    let at-byte-at = at-nearer.before in
-    let at-loop = at-byte-at.before.before in
-    let at-start = at-loop.before.before.before in
-    let a = at-start.args in
-    let l = at-loop.loop in
-    let one = at-nearer.nearer.ensures in
-    let two = c.nearer2.ensures in (
+    let a = c.args in
+    let l = c.loop-i in
+    let one = c.nearer-nearest.ensures in
+    let two = c.nearer-next.ensures in (
       omega arith,
       two.0,
       omega (arith, one.1, two.1, l.invariant.2),
       passed-more a.li.now a.group a.after l.next _ l.i _ l.invariant.3 (omega (arith, one.1, two.1))
-          at-byte-at.byte_at.ensures (λ h. omega (arith, one.2 h, two.1)),
-      passed-more a.ri.now a.group a.after l.next _ l.i _ l.invariant.4 (omega (arith, one.1, two.1)) at-byte-at2.byte-at2.ensures two.2,
+          c.byte_at.ensures (λ h. omega (arith, one.2 h, two.1)),
+      passed-more a.ri.now a.group a.after l.next _ l.i _ l.invariant.4 (omega (arith, one.1, two.1)) c.byte_at-in-loop-i.ensures two.2,
     )
 
 returns : tie.Need-returns invariant-loop decreases-loop
 returns c =
-    let l = c.before.loop in
+    let l = c.loop-i in
     (l.invariant.1, l.invariant.2, λ i h above. l.invariant.3 i (omega arith) above, λ i h above. l.invariant.4 i (omega arith) above)
 
-pub next-index-spec : {M : Type 1} → statement M
-next-index-spec = tie.close (tie.spec invariant-loop decreases-loop loop-holds add_at (search rules) (search rules) nearer-requires
-    (search rules) nearer-requires-2 (search rules) (search rules) loop-again returns)
+pub next_index_spec : {M : Type 1} → statement M
+next_index_spec = tie.close (tie.spec invariant-loop decreases-loop loop-holds add_at (search rules) (search rules)
+    nearer-requires (search rules) nearer-requires-2 (search rules) (search rules) loop-again returns)

@@ -15,33 +15,33 @@ use borrow.Author.Rules.{rules}
 use Rattle.ibft_compare.proofs.pair.slot_with.Statement.{statement}
 use Rattle.ibft_compare.proofs.pair.slot_with.Tie as tie
 
-abbrev invariant-loop : tie.invariant-loop
+abbrev invariant-loop : tie.invariant-loop-i
 invariant-loop indices group index i₀ i = (i ≤ extra_most) × ((j : ℕ) → j < i → eqb (get_or indices (group + j) 0) index ≡ false)
 
-abbrev decreases-loop : tie.decreases-loop
+abbrev decreases-loop : tie.decreases-loop-i
 decreases-loop indices group index i₀ i = extra_most - i
 
-loop-holds : tie.Need-loop-init invariant-loop decreases-loop
+loop-holds : tie.Need-loop-i-init invariant-loop decreases-loop
 loop-holds c = (search rules, below_none _)
 
-returns : tie.Need-returns invariant-loop decreases-loop
+returns : tie.Need-returns-then-byte_at-index invariant-loop decreases-loop
 unfolding slot_with slot_as
 returns c =
-    let l = c.before.before.before.loop in
-    let found = first-is extra_most _ l.i l.invariant.0 l.invariant.1 (λ h. eq-eqb _ _ (sym c.before.byte_at.ensures ∙ c.if1.true)) in
+    let l = c.loop-i in
+    let found = first-is extra_most _ l.i l.invariant.0 l.invariant.1 (λ h. eq-eqb _ _ (sym c.byte_at.ensures ∙ c.if-byte_at-index.true)) in
     rw (found, lt-ltb l.i extra_most (omega arith))
 
-loop-again : tie.Need-loop-preserved invariant-loop decreases-loop
+loop-again : tie.Need-loop-i-preserved invariant-loop decreases-loop
 loop-again c =
-    let l = c.before.before.before.loop in
-    (search rules, below_more _ l.i l.invariant.1 (ne_eqb _ _ (λ e. c.if1.false (c.before.byte_at.ensures ∙ e))))
+    let l = c.loop-i in
+    (search rules, below_more _ l.i l.invariant.1 (ne_eqb _ _ (λ e. c.if-byte_at-index.false (c.byte_at.ensures ∙ e))))
 
-returns-2 : tie.Need-returns-2 invariant-loop decreases-loop
+returns-2 : tie.Need-returns invariant-loop decreases-loop
 unfolding slot_with slot_as
 returns-2 c =
-    let l = c.before.loop in
+    let l = c.loop-i in
     rw (first-is extra_most _ extra_most (omega arith) (λ j h. l.invariant.1 j (omega arith)) (λ h. absurd (omega arith)))
 
-pub slot-with-spec : {M : Type 1} → statement M
-slot-with-spec = tie.close (tie.spec invariant-loop decreases-loop loop-holds (search rules) (search rules) (search rules)
-    (search rules) returns (search rules) (search rules) loop-again returns-2)
+pub slot_with_spec : {M : Type 1} → statement M
+slot_with_spec = tie.close (tie.spec invariant-loop decreases-loop loop-holds (search rules) (search rules)
+    (search rules) (search rules) returns (search rules) (search rules) loop-again returns-2)

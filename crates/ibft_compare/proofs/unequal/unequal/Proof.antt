@@ -7,17 +7,17 @@ use borrow.Author.Rules.{rules}
 use Rattle.ibft_compare.proofs.unequal.unequal.Statement.{statement}
 use Rattle.ibft_compare.proofs.unequal.unequal.Tie as tie
 
-returns : tie.Need-returns
+returns : tie.Need-returns-then-a-b
 unfolding unequal
 returns c =
-    let a = c.before.before.before.args in
-    rw (ne_eqb (length a.a.now) (length a.b.now) c.if1.true)
+    let a = c.args in
+    rw (ne_eqb (length a.a.now) (length a.b.now) c.if-a-b.true)
 
-returns-2 : tie.Need-returns-2
+returns-2 : tie.Need-returns
 unfolding unequal
 returns-2 c =
-    let a = c.before.before.before.before.args in
-    rw (eq-eqb (length a.a.now) (length a.b.now) c.before.if1.false, c.first-unequal.ensures.0)
+    let a = c.args in
+    rw (eq-eqb (length a.a.now) (length a.b.now) c.if-a-b.false, c.first_unequal.ensures.0)
 
-pub unequal-spec : {M : Type 1} → statement M
-unequal-spec = tie.close (tie.spec returns (search rules) returns-2)
+pub unequal_spec : {M : Type 1} → statement M
+unequal_spec = tie.close (tie.spec returns (search rules) returns-2)

@@ -6,7 +6,8 @@ use Rattle.ibft_compare.proofs.walk.bytes_differ.Statement.{statement}
 use Rattle.ibft_compare.proofs.walk.bytes_differ.Tie as tie
 
 returns : tie.Need-returns
-returns c = c.unequal.ensures ∙ ap₂ unequal c.before.before.part.ensures.bytes c.before.part2.ensures.bytes
+returns c = c.unequal.ensures ∙ ap₂ unequal c.part.ensures.bytes c.part-2.ensures.bytes
 
-pub bytes-differ-spec : {M : Type 1} → statement M
-bytes-differ-spec = tie.close (tie.spec (search rules) (search rules) (search rules) (search rules) (search rules) returns)
+pub bytes_differ_spec : {M : Type 1} → statement M
+bytes_differ_spec = tie.close (tie.spec (search rules) (search rules) (search rules) (search rules) (search rules)
+    returns)

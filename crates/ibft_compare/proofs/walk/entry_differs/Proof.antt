@@ -8,42 +8,29 @@ use borrow.Author.Rules.{rules}
 use Rattle.ibft_compare.proofs.walk.entry_differs.Statement.{statement}
 use Rattle.ibft_compare.proofs.walk.entry_differs.Tie as tie
 
-returns : tie.Need-returns
+returns : tie.Need-returns-then-only_one
 returns c =
-    let at-only-one = c.before in
-    let at-holds-entry2 = at-only-one.before in
-    let at-holds-entry = at-holds-entry2.before in
-    rw (sym (ap₂ only_one at-holds-entry.holds-entry.ensures at-holds-entry2.holds-entry2.ensures)
-    ∙ sym at-only-one.only-one.ensures ∙ c.if1.true) refl
+    rw (sym (ap₂ only_one c.holds_entry-l.ensures c.holds_entry.ensures)
+    ∙ sym c.only_one.ensures ∙ c.if-only_one.true) refl
 
-returns-2 : tie.Need-returns-2
+returns-2 : tie.Need-returns-then-not-l
 returns-2 c =
-    let at-if1 = c.before in
-    let at-only-one = at-if1.before in
-    let at-holds-entry2 = at-only-one.before in
-    let at-holds-entry = at-holds-entry2.before in
-    let l = at-holds-entry.holds-entry.ensures in
+    let l = c.holds_entry-l.ensures in
     rw (
-      sym (ap₂ only_one l at-holds-entry2.holds-entry2.ensures) ∙ sym at-only-one.only-one.ensures
-          ∙ at-if1.if1.false,
-      sym l ∙ not-true _ c.if2.true,
+      sym (ap₂ only_one l c.holds_entry.ensures) ∙ sym c.only_one.ensures
+          ∙ c.if-only_one.false,
+      sym l ∙ c.if-not-l.true,
     ) refl
 
-returns-3 : tie.Need-returns-3
+returns-3 : tie.Need-returns
 returns-3 c =
-    let at-entry-part2 = c.before in
-    let at-entry-part = at-entry-part2.before in
-    let at-if2 = at-entry-part.before in
-    let at-if1 = at-if2.before in
-    let at-only-one = at-if1.before in
-    let at-holds-entry2 = at-only-one.before in
-    let at-holds-entry = at-holds-entry2.before in
-    let l = at-holds-entry.holds-entry.ensures in
+    let l = c.holds_entry-l.ensures in
     rw (
-      sym (ap₂ only_one l at-holds-entry2.holds-entry2.ensures) ∙ sym at-only-one.only-one.ensures ∙ at-if1.if1.false,
-      sym l ∙ not-false _ at-if2.if2.false,
+      sym (ap₂ only_one l c.holds_entry.ensures) ∙ sym c.only_one.ensures ∙ c.if-only_one.false,
+      sym l ∙ c.if-not-l.false,
     )
-    (c.unequal.ensures ∙ ap₂ unequal at-entry-part.entry-part.ensures at-entry-part2.entry-part2.ensures)
+    (c.unequal.ensures ∙ ap₂ unequal c.entry_part.ensures c.entry_part-2.ensures)
 
-pub entry-differs-spec : {M : Type 1} → statement M
-entry-differs-spec = tie.close (tie.spec (search rules) (search rules) (search rules) returns returns-2 (search rules) (search rules) (search rules) returns-3)
+pub entry_differs_spec : {M : Type 1} → statement M
+entry_differs_spec = tie.close (tie.spec (search rules) (search rules) (search rules) returns returns-2 (search rules)
+    (search rules) (search rules) returns-3)

@@ -10,23 +10,18 @@ use borrow.Author.Rules.{rules}
 use Rattle.ibft_compare.proofs.walk.entry_stretch.Statement.{statement}
 use Rattle.ibft_compare.proofs.walk.entry_stretch.Tie as tie
 
-returns : tie.Need-returns
+returns : tie.Need-returns-then-not-holds_entry
 unfolding entry_stretch
-returns c = rw (sym c.before.before.holds-entry.ensures ∙ not-true _ c.before.if1.true) c.no-stretch.ensures
+returns c = rw (sym c.holds_entry.ensures ∙ c.if-not-holds_entry.true) c.no_stretch.ensures
 
-returns-2 : tie.Need-returns-2
+returns-2 : tie.Need-returns
 unfolding entry_stretch size_in offset_in
 returns-2 c =
-    let at-u16-at = c.before in
-    let at-string-words-at = at-u16-at.before in
-    let at-if1 = at-string-words-at.before in
-    let at-holds-entry = at-if1.before in
-    let at-start = at-holds-entry.before.before.before in
-    let t = at-start.args.t.now in
-    let words = at-string-words-at.string-words-at.ensures in
-    rw (sym at-holds-entry.holds-entry.ensures ∙ not-false _ at-if1.if1.false)
-    (ap₂ stretch (at-u16-at.u16-at.ensures ∙ ap (λ (i : ℕ). word16 t (i + 2)) words) (c.u16-at2.ensures ∙ ap (word16 t) words))
+    let t = c.args.t.now in
+    let words = c.string_words_at-words.ensures in
+    rw (sym c.holds_entry.ensures ∙ c.if-not-holds_entry.false)
+    (ap₂ stretch (c.u16_at.ensures ∙ ap (λ (i : ℕ). word16 t (i + 2)) words) (c.u16_at-2.ensures ∙ ap (word16 t) words))
 
-pub entry-stretch-spec : {M : Type 1} → statement M
-entry-stretch-spec = tie.close (tie.spec (search rules) (search rules) returns (search rules) (search rules) (search rules)
-    (search rules) (search rules) (search rules) returns-2)
+pub entry_stretch_spec : {M : Type 1} → statement M
+entry_stretch_spec = tie.close (tie.spec (search rules) (search rules) returns (search rules) (search rules)
+    (search rules) (search rules) (search rules) (search rules) returns-2)

@@ -10,26 +10,23 @@ use borrow.Author.Rules.{rules}
 use Rattle.ibft_compare.proofs.walk.field_count.Statement.{statement}
 use Rattle.ibft_compare.proofs.walk.field_count.Tie as tie
 
-returns : tie.Need-returns
+returns : tie.Need-returns-then-id-eq-ID
 returns c =
-    let a = c.before.before.args in
-    let id : (kind_of a.k).id ≡ 3 = sym (ap (λ (s : Shape). s.id) c.before.kind-of.ensures) ∙ c.if1.true in
+    let a = c.args in
+    let id : (kind_of a.k).id ≡ 3 = sym (ap (λ (s : Shape). s.id) c.kind_of-id.ensures) ∙ c.if-id-eq-ID.true in
     (ap (λ (kind : Kind). suc (length kind.fields)) (kind-nic a.k id), omega arith)
 
-returns-2 : tie.Need-returns-2
+returns-2 : tie.Need-returns-then-id-eq-ID-2
 returns-2 c =
-    let a = c.before.before.before.args in
-    let id : (kind_of a.k).id ≡ 4 = sym (ap (λ (s : Shape). s.id) c.before.before.kind-of.ensures) ∙ c.if2.true in
+    let a = c.args in
+    let id : (kind_of a.k).id ≡ 4 = sym (ap (λ (s : Shape). s.id) c.kind_of-id.ensures) ∙ c.if-id-eq-ID-2.true in
     (ap (λ (kind : Kind). suc (length kind.fields)) (kind-target a.k id), omega arith)
 
-returns-3 : tie.Need-returns-3
+returns-3 : tie.Need-returns
 returns-3 c =
-    let at-if1 = c.before in
-    let at-kind-of = at-if1.before in
-    let at-start = at-kind-of.before in
-    let a = at-start.args in
-    let id = ap (λ (s : Shape). s.id) at-kind-of.kind-of.ensures in
-    (ap (λ (kind : Kind). suc (length kind.fields)) (kind-other a.k (λ e. at-if1.if1.false (id ∙ e)) (λ e. c.if2.false (id ∙ e))), omega arith)
+    let a = c.args in
+    let id = ap (λ (s : Shape). s.id) c.kind_of-id.ensures in
+    (ap (λ (kind : Kind). suc (length kind.fields)) (kind-other a.k (λ e. c.if-id-eq-ID.false (id ∙ e)) (λ e. c.if-id-eq-ID-2.false (id ∙ e))), omega arith)
 
-pub field-count-spec : {M : Type 1} → statement M
-field-count-spec = tie.close (tie.spec (search rules) returns returns-2 returns-3)
+pub field_count_spec : {M : Type 1} → statement M
+field_count_spec = tie.close (tie.spec (search rules) returns returns-2 returns-3)

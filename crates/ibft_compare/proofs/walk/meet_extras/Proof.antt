@@ -35,70 +35,60 @@ points-skip aspect li ri group after next low less na nb =
     ∙ gather-skip (index_points aspect li ri group) least_index (suc after - least_index) (next - suc after)
     (λ i l h. ap (each (points_in aspect)) (index-none li ri group after next i na nb (omega arith) (omega arith)))
 
-abbrev invariant-loop : tie.invariant-loop
+abbrev invariant-loop : tie.invariant-loop-index
 invariant-loop left ls li right rs ri aspect group met₀ index₀ met index =
     (least_index ≤ index) × (index ≤ 256) × (met ≡ walked left right met₀ (points_to aspect li ri group index))
     × (met.count ≤ met₀.count + 11 * (index - least_index))
 
-abbrev decreases-loop : tie.decreases-loop
+abbrev decreases-loop : tie.decreases-loop-index
 decreases-loop left ls li right rs ri aspect group met₀ index₀ met index = 256 - index
 
-next-index-requires : tie.Need-next-index-requires invariant-loop decreases-loop
+next-index-requires : tie.Need-next_index-index-requires invariant-loop decreases-loop
 next-index-requires c κs = let s = c.before.before.before.before.before.before in (group-ends s.args.group s.requires.1, omega arith)
 
-loop-holds : tie.Need-loop-init invariant-loop decreases-loop
+loop-holds : tie.Need-loop-index-init invariant-loop decreases-loop
 unfolding gather walked
 loop-holds c =
-    let at-start = c.before.before.before.before.before.before.before in
-    let a = at-start.args in
-    let n = c.next-index.ensures in
-    let none : points_to a.aspect a.li.now a.ri.now a.group c.next-index.result ≡ [] =
-    points-skip a.aspect a.li.now a.ri.now a.group 1 c.next-index.result (omega arith) n.0 n.2 n.3 in
+    let a = c.args in
+    let n = c.next_index-index.ensures in
+    let none : points_to a.aspect a.li.now a.ri.now a.group c.next_index-index.result ≡ [] =
+    points-skip a.aspect a.li.now a.ri.now a.group 1 c.next_index-index.result (omega arith) n.0 n.2 n.3 in
     (omega (arith, n.0), n.1, ap (walked a.left.now a.right.now a.met) (sym none), omega arith)
 
-meet-index-requires : tie.Need-meet-index-requires invariant-loop decreases-loop
+meet-index-requires : tie.Need-meet_index-met-requires invariant-loop decreases-loop
 meet-index-requires c κs =
-    let at-loop = c.before in
-    let s = at-loop.before.before.before.before.before.before.before.before in
-    let l = at-loop.loop in
-    (s.requires.0, s.requires.1, omega (arith, s.requires.2, l.invariant.3, l.invariant.1))
+    let l = c.loop-index in
+    (c.requires.0, c.requires.1, omega (arith, c.requires.2, l.invariant.3, l.invariant.1))
 
-next-index-requires-2 : tie.Need-next-index-requires-2 invariant-loop decreases-loop
+next-index-requires-2 : tie.Need-next_index-index-requires-in-loop-index invariant-loop decreases-loop
 next-index-requires-2 c κs =
-    let at-loop-test = c.before in
-    let s = at-loop-test.before.before.before.before.before.before.before.before.before in
-    (group-ends s.args.group s.requires.1, omega (arith, at-loop-test.loop-test.true))
+    (group-ends c.args.group c.requires.1, omega (arith, c.loop-index-test.true))
 
-loop-again : tie.Need-loop-preserved invariant-loop decreases-loop
+loop-again : tie.Need-loop-index-preserved invariant-loop decreases-loop
 loop-again c =
-    let at-meet-index = c.before in
-    let at-loop = at-meet-index.before.before in
-    let at-start = at-loop.before.before.before.before.before.before.before.before in
-    let a = at-start.args in
-    let l = at-loop.loop in
+    let a = c.args in
+    let l = c.loop-index in
     let points = index_points a.aspect a.li.now a.ri.now a.group in
-    let n = c.next-index2.ensures in
+    let n = c.next_index-index-in-loop-index.ensures in
     let next : l.index - least_index + 1 ≡ suc l.index - least_index = omega (arith, l.invariant.0) in
     let more : walked a.left.now a.right.now a.met (gather points least_index (l.index - least_index + 1))
-    ≡ walked a.left.now a.right.now a.met (points_to a.aspect a.li.now a.ri.now a.group c.next-index2.result) =
+    ≡ walked a.left.now a.right.now a.met (points_to a.aspect a.li.now a.ri.now a.group c.next_index-index-in-loop-index.result) =
     ap (walked a.left.now a.right.now a.met)
     (ap (gather points least_index) next ∙ sym
-    (points-skip a.aspect a.li.now a.ri.now a.group l.index c.next-index2.result
+    (points-skip a.aspect a.li.now a.ri.now a.group l.index c.next_index-index-in-loop-index.result
     (omega (arith, l.invariant.0)) n.0 n.2 n.3)) in (
       omega (arith, l.invariant.0, n.0),
       n.1,
       walked_next a.left.now a.right.now points least_index (l.index - least_index) l.index a.met l.met _
-          l.invariant.2 (omega (arith, l.invariant.0)) at-meet-index.meet-index.ensures.0 ∙ more,
-      omega (arith, at-meet-index.meet-index.ensures.1, l.invariant.3, n.0, l.invariant.0),
+          l.invariant.2 (omega (arith, l.invariant.0)) c.meet_index-met.ensures.0 ∙ more,
+      omega (arith, c.meet_index-met.ensures.1, l.invariant.3, n.0, l.invariant.0),
     )
 
 returns : tie.Need-returns invariant-loop decreases-loop
 unfolding extra_pairs
 returns c =
-    let at-loop = c.before in
-    let at-start = at-loop.before.before.before.before.before.before.before.before in
-    let a = at-start.args in
-    let l = at-loop.loop in
+    let a = c.args in
+    let l = c.loop-index in
     let all : l.index ≡ 256 = omega (arith, l.invariant.1) in (
       l.invariant.2
           ∙ ap (λ (i : ℕ). walked a.left.now a.right.now a.met (points_to a.aspect a.li.now a.ri.now a.group i)) all
@@ -108,6 +98,6 @@ returns c =
       omega (arith, l.invariant.3, all),
     )
 
-pub meet-extras-spec : {M : Type 1} → statement M
-meet-extras-spec = tie.close (tie.spec invariant-loop decreases-loop (search rules) (search rules) next-index-requires loop-holds
-    (search rules) meet-index-requires next-index-requires-2 (search rules) loop-again returns)
+pub meet_extras_spec : {M : Type 1} → statement M
+meet_extras_spec = tie.close (tie.spec invariant-loop decreases-loop (search rules) (search rules) next-index-requires
+    loop-holds (search rules) meet-index-requires next-index-requires-2 (search rules) loop-again returns)

@@ -13,30 +13,22 @@ use Rattle.ibft_compare.proofs.walk.meet_field.Tie as tie
 
 returns : tie.Need-returns
 returns c =
-    let at-field-stretch2 = c.before in
-    let at-field-stretch = at-field-stretch2.before in
-    let at-field-differs = at-field-stretch.before in
-    let at-start-in2 = at-field-differs.before in
-    let at-start-in = at-start-in2.before.before in
-    let at-field-of = at-start-in.before.before in
-    let at-kind-of = at-field-of.before in
-    let s = at-kind-of.before.before.before.before.before in
-    let a = s.args in
-    let pre = s.requires in
+    let a = c.args in
+    let pre = c.requires in
     let p = a.pair in
     let f = kind_field (kind_of p.group) a.n in
     let inside = field-inside p.group a.n pre.1.group pre.2 in
-    let shape : at-field-of.field_of.result ≡ field_shape f = at-field-of.field_of.ensures in
-    field-met a.left.now a.right.now p a.met _ _ (ap (λ (k : Shape). k.id) at-kind-of.kind-of.ensures) pre.1 f _ _ _ _ _
+    let shape : c.field_of-f.result ≡ field_shape f = c.field_of-f.ensures in
+    field-met a.left.now a.right.now p a.met _ _ (ap (λ (k : Shape). k.id) c.kind_of-id.ensures) pre.1 f _ _ _ _ _
     inside.0
     inside.1
-    (at-start-in.start-in.ensures ∙ ap (λ (l : List ℕ). start_in l p.left) pre.0.0)
-    (at-start-in2.start-in2.ensures ∙ ap (λ (l : List ℕ). start_in l p.right) pre.0.1)
-    (rw shape at at-field-differs.field-differs.ensures)
-    (rw shape at at-field-stretch.field-stretch.ensures)
-    (rw shape at at-field-stretch2.field-stretch2.ensures)
+    (c.start_in-l.ensures ∙ ap (λ (l : List ℕ). start_in l p.left) pre.0.0)
+    (c.start_in-r.ensures ∙ ap (λ (l : List ℕ). start_in l p.right) pre.0.1)
+    (rw shape at c.field_differs-differs.ensures)
+    (rw shape at c.field_stretch.ensures)
+    (rw shape at c.field_stretch-2.ensures)
     (rw shape at c.then.ensures.0)
 
-pub meet-field-spec : {M : Type 1} → statement M
-meet-field-spec = tie.close (tie.spec (search rules) (search rules) (search rules) (search rules) (search rules)
+pub meet_field_spec : {M : Type 1} → statement M
+meet_field_spec = tie.close (tie.spec (search rules) (search rules) (search rules) (search rules) (search rules)
     (search rules) (search rules) (search rules) (search rules) (search rules) returns)

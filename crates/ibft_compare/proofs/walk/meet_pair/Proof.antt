@@ -19,55 +19,46 @@ row : (left right : List ℕ) (p : Pair) (met r : Met) (m n : Aspect) → r ≡ 
     ≡ walked left right met (points_in n p)
 row left right p met r m n e h = e ∙ ap (λ (x : Aspect). walked left right met (points_in x p)) (sym h)
 
-meet-presence-requires : tie.Need-meet-presence-requires
+meet-presence-requires : tie.Need-meet_presence-requires
 meet-presence-requires c κs =
-    let at-start = c.before.before.before.before.before.before in
-    let pre = at-start.requires in (pre.0, omega (arith, pre.2))
+    let pre = c.requires in (pre.0, omega (arith, pre.2))
 
-meet-fields-requires : tie.Need-meet-fields-requires
+meet-fields-requires : tie.Need-meet_fields-requires
 meet-fields-requires c κs =
-    let at-start = c.before.before.before.before.before.before in
-    at-start.requires
+    c.requires
 
-meet-strings-requires : tie.Need-meet-strings-requires
+meet-strings-requires : tie.Need-meet_strings-requires
 meet-strings-requires c κs =
-    let at-start = c.before.before.before.before.before.before in
-    at-start.requires
+    c.requires
 
-returns : tie.Need-returns
+returns : tie.Need-returns-in-Presence
 unfolding points_in
 returns c =
-    let at-enum-told = c.before in
-    let at-start = at-enum-told.before.before.before.before.before.before in
-    let a = at-start.args in
+    let a = c.args in
     let few = walked-few a.left.now a.right.now a.met (presence a.pair ∷ []) in
-    let step = c.meet-presence.ensures in (
-      row a.left.now a.right.now a.pair a.met _ Presence a.aspect step at-enum-told.enum_told.given.1,
+    let step = c.meet_presence.ensures in (
+      row a.left.now a.right.now a.pair a.met _ Presence a.aspect step c.in-Presence.is,
       omega (arith, few, ap (λ (m : Met). m.count) step),
     )
 
-returns-2 : tie.Need-returns-2
+returns-2 : tie.Need-returns-in-Fields
 unfolding points_in
 returns-2 c =
-    let at-enum-told2 = c.before in
-    let at-start = at-enum-told2.before.before.before.before.before.before in
-    let a = at-start.args in (
-      row a.left.now a.right.now a.pair a.met _ Fields a.aspect c.meet-fields.ensures.0
-          at-enum-told2.enum-told2.given.1,
-      c.meet-fields.ensures.1,
+    let a = c.args in (
+      row a.left.now a.right.now a.pair a.met _ Fields a.aspect c.meet_fields.ensures.0
+          c.in-Fields.is,
+      c.meet_fields.ensures.1,
     )
 
-returns-3 : tie.Need-returns-3
+returns-3 : tie.Need-returns-in-Strings
 unfolding points_in
 returns-3 c =
-    let at-enum-told3 = c.before in
-    let at-start = at-enum-told3.before.before.before.before.before.before in
-    let a = at-start.args in (
-      row a.left.now a.right.now a.pair a.met _ Strings a.aspect c.meet-strings.ensures.0
-          at-enum-told3.enum-told3.given.1,
-      omega (arith, c.meet-strings.ensures.1),
+    let a = c.args in (
+      row a.left.now a.right.now a.pair a.met _ Strings a.aspect c.meet_strings.ensures.0
+          c.in-Strings.is,
+      omega (arith, c.meet_strings.ensures.1),
     )
 
-pub meet-pair-spec : {M : Type 1} → statement M
-meet-pair-spec = tie.close (tie.spec (search rules) meet-presence-requires (search rules) meet-fields-requires
+pub meet_pair_spec : {M : Type 1} → statement M
+meet_pair_spec = tie.close (tie.spec (search rules) meet-presence-requires (search rules) meet-fields-requires
     (search rules) meet-strings-requires returns returns-2 returns-3)

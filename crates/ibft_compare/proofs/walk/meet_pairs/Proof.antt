@@ -16,34 +16,27 @@ nics = inl refl
 targets : ExtraGroup extra_targets
 targets = inr refl
 
-meet-named-requires : tie.Need-meet-named-requires
+meet-named-requires : tie.Need-meet_named-named-requires
 meet-named-requires c κs =
-    let at-start = c.before.before.before.before.before.before in
-    let pre = at-start.requires in (pre.0, omega (arith, pre.1))
+    let pre = c.requires in (pre.0, omega (arith, pre.1))
 
-meet-extras-requires : tie.Need-meet-extras-requires
+meet-extras-requires : tie.Need-meet_extras-nics-requires
 meet-extras-requires c κs =
-    let at-start = c.before.before.before.before.before.before.before in
-    let pre = at-start.requires in
-    (pre.0, search (nics, targets), omega (arith, pre.1, c.meet-named.ensures.1))
+    let pre = c.requires in
+    (pre.0, search (nics, targets), omega (arith, pre.1, c.meet_named-named.ensures.1))
 
-meet-extras-requires-2 : tie.Need-meet-extras-requires-2
+meet-extras-requires-2 : tie.Need-meet_extras-requires
 meet-extras-requires-2 c κs =
-    let at-meet-named = c.before in
-    let at-start = at-meet-named.before.before.before.before.before.before.before in
-    let pre = at-start.requires in
-    (pre.0, search (nics, targets), omega (arith, pre.1, at-meet-named.meet-named.ensures.1, c.meet-extras.ensures.1))
+    let pre = c.requires in
+    (pre.0, search (nics, targets), omega (arith, pre.1, c.meet_named-named.ensures.1, c.meet_extras-nics.ensures.1))
 
 returns : tie.Need-returns
 returns c =
-    let at-meet-extras = c.before in
-    let at-meet-named = at-meet-extras.before in
-    let at-start = at-meet-named.before.before.before.before.before.before.before in
-    let a = at-start.args in
+    let a = c.args in
     let f = points_in a.aspect in
-    let named = at-meet-named.meet-named.ensures in
-    let extra-nics = at-meet-extras.meet-extras.ensures in
-    let extra-targets = c.meet-extras2.ensures in (
+    let named = c.meet_named-named.ensures in
+    let extra-nics = c.meet_extras-nics.ensures in
+    let extra-targets = c.meet_extras.ensures in (
       walked-three a.left.now a.right.now (each f named_pairs)
           (each f (extra_pairs a.li.now a.ri.now extra_nics))
           (each f (extra_pairs a.li.now a.ri.now extra_targets)) a.met _ _ _ named.0 extra-nics.0
@@ -52,5 +45,5 @@ returns c =
       omega (arith, named.1, extra-nics.1, extra-targets.1),
     )
 
-pub meet-pairs-spec : {M : Type 1} → statement M
-meet-pairs-spec = tie.close (tie.spec meet-named-requires meet-extras-requires meet-extras-requires-2 returns)
+pub meet_pairs_spec : {M : Type 1} → statement M
+meet_pairs_spec = tie.close (tie.spec meet-named-requires meet-extras-requires meet-extras-requires-2 returns)

@@ -10,22 +10,22 @@ use borrow.Author.Rules.{rules}
 use Rattle.ibft_compare.proofs.walk.string_count.Statement.{statement}
 use Rattle.ibft_compare.proofs.walk.string_count.Tie as tie
 
-returns : tie.Need-returns
+returns : tie.Need-returns-then-kind_of-eq-ID
 returns c =
-    let a = c.before.before.before.args in
-    let id : (kind_of a.k).id ≡ 4 = sym (ap (λ (s : Shape). s.id) c.before.before.kind-of.ensures) ∙ c.if1.true in
+    let a = c.args in
+    let id : (kind_of a.k).id ≡ 4 = sym (ap (λ (s : Shape). s.id) c.kind_of.ensures) ∙ c.if-kind_of-eq-ID.true in
     (ap (λ (kind : Kind). length kind.string_fields) (kind-target a.k id), omega arith)
 
-returns-2 : tie.Need-returns-2
+returns-2 : tie.Need-returns
 returns-2 c =
-    let a = c.before.before.before.args in
-    let id = ap (λ (s : Shape). s.id) c.before.before.kind-of.ensures in (
+    let a = c.args in
+    let id = ap (λ (s : Shape). s.id) c.kind_of.ensures in (
       elim (ℕ_discrete (kind_of a.k).id 3) [
         | yes e ↦ ap (λ (kind : Kind). length kind.string_fields) (kind-nic a.k e)
-        | no e ↦ ap (λ (kind : Kind). length kind.string_fields) (kind-other a.k e (λ f. c.if1.false (id ∙ f)))
+        | no e ↦ ap (λ (kind : Kind). length kind.string_fields) (kind-other a.k e (λ f. c.if-kind_of-eq-ID.false (id ∙ f)))
       ],
       omega arith,
     )
 
-pub string-count-spec : {M : Type 1} → statement M
-string-count-spec = tie.close (tie.spec (search rules) returns returns-2)
+pub string_count_spec : {M : Type 1} → statement M
+string_count_spec = tie.close (tie.spec (search rules) returns returns-2)

@@ -4,13 +4,13 @@ use borrow.Author.Rules.{rules}
 use Rattle.ibft_compare.proofs.walk.structure_stretch.Statement.{statement}
 use Rattle.ibft_compare.proofs.walk.structure_stretch.Tie as tie
 
-returns : tie.Need-returns
+returns : tie.Need-returns-then-start-eq0
 returns c =
-    let a = c.before.before.args in
-    rw (same_differs a.start 0 c.before.if1.true) c.no-stretch.ensures
+    let a = c.args in
+    rw (same_differs a.start 0 c.if-start-eq0.true) c.no_stretch.ensures
 
-returns-2 : tie.Need-returns-2
-returns-2 c = rw (unlike-differs c.before.args.start 0 c.if1.false) (search rules)
+returns-2 : tie.Need-returns
+returns-2 c = rw (unlike-differs c.args.start 0 c.if-start-eq0.false) (search rules)
 
-pub structure-stretch-spec : {M : Type 1} → statement M
-structure-stretch-spec = tie.close (tie.spec (search rules) returns returns-2)
+pub structure_stretch_spec : {M : Type 1} → statement M
+structure_stretch_spec = tie.close (tie.spec (search rules) returns returns-2)

@@ -6,7 +6,7 @@ use Rattle.ibft_compare.proofs.pair.Pair.named.Tie as tie
 
 returns : tie.Need-returns
 unfolding named_pair
-returns c = rw c.index-of.ensures
+returns c = rw c.index_of.ensures
 
-pub named-spec : {M : Type 1} → statement M
-named-spec = tie.close (tie.spec (search rules) returns)
+pub named_spec : {M : Type 1} → statement M
+named_spec = tie.close (tie.spec (search rules) returns)

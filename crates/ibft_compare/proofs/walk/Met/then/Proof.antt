@@ -8,28 +8,22 @@ use borrow.Author.Rules.{rules}
 use Rattle.ibft_compare.proofs.walk.Met.then.Statement.{statement}
 use Rattle.ibft_compare.proofs.walk.Met.then.Tie as tie
 
-returns : tie.Need-returns
-returns c = (rw (not-true c.before.args.«differs» c.if1.true) refl, omega arith)
+returns : tie.Need-returns-then-not-differs
+returns c = (rw (c.if-not-differs.true) refl, omega arith)
 
-returns-2 : tie.Need-returns-2
+returns-2 : tie.Need-returns-then-self
 unfolding counted
 returns-2 c =
-    let at-if2 = c.before.before.before in
-    let at-if1 = at-if2.before.before in
-    let at-start = at-if1.before in
-    let a = at-start.args in
-    let on = not-false a.«differs» at-if1.if1.false in
-    (rw (on, ne_eqb a.self.count a.self.wanted at-if2.if2.true) (search rules), omega arith)
+    let a = c.args in
+    let on = c.if-not-differs.false in
+    (rw (on, ne_eqb a.self.count a.self.wanted c.if-self.true) (search rules), omega arith)
 
-returns-3 : tie.Need-returns-3
+returns-3 : tie.Need-returns
 unfolding counted
 returns-3 c =
-    let at-if2 = c.before in
-    let at-if1 = at-if2.before.before in
-    let at-start = at-if1.before in
-    let a = at-start.args in
-    let on = not-false a.«differs» at-if1.if1.false in
-    (rw (on, eq-eqb a.self.count a.self.wanted at-if2.if2.false) (search rules), omega arith)
+    let a = c.args in
+    let on = c.if-not-differs.false in
+    (rw (on, eq-eqb a.self.count a.self.wanted c.if-self.false) (search rules), omega arith)
 
-pub then-spec : {M : Type 1} → statement M
-then-spec = tie.close (tie.spec returns (search rules) returns-2 (search rules) returns-3)
+pub then_spec : {M : Type 1} → statement M
+then_spec = tie.close (tie.spec returns (search rules) returns-2 (search rules) returns-3)
