@@ -1,4 +1,6 @@
 // The build: its refusals, the plan, and the table's bytes written into the lent room.
+#![tactic(auto)]
+
 pub mod build;
 mod offsets;
 mod starts;

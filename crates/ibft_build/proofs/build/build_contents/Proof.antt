@@ -11,138 +11,98 @@ use borrow.Author.Rules.{rules}
 use Rattle.ibft_build.proofs.build.build_contents.Statement.{statement}
 use Rattle.ibft_build.proofs.build.build_contents.Tie as tie
 
-entry-fields-requires : tie.Need-entry-fields-requires
-entry-fields-requires c κs = c.entry-limit.ensures.0
+entry-fields-requires : tie.Need-entry_fields-fields-requires
+entry-fields-requires c κs = c.entry_limit-limit.ensures.0
 
-wanted-sizes-requires : tie.Need-wanted-sizes-requires
+wanted-sizes-requires : tie.Need-wanted_sizes-wanted-requires
 wanted-sizes-requires c κs =
-    let at-entry-limit = c.before in
-    let at-start = at-entry-limit.before.before.before.before.before in
-    ((accepted-readable _ _ at-start.requires).short, at-entry-limit.entry-limit.ensures.0)
+    ((accepted-readable _ _ c.requires).short, c.entry_limit-limit.ensures.0)
 
-heap-sizes-requires : tie.Need-heap-sizes-requires
+heap-sizes-requires : tie.Need-heap_sizes-sizes-requires
 heap-sizes-requires c κs =
-    let at-wanted-sizes = c.before.before in
-    let at-entry-fields = at-wanted-sizes.before in
-    let at-entry-limit = at-entry-fields.before in
-    let at-start = at-entry-limit.before.before.before.before.before in (
+    let at-start = c.before.before.before.before.before in (
       accepted-readable _ _ at-start.requires,
-      at-wanted-sizes.wanted-sizes.ensures,
-      at-entry-fields.entry-fields.ensures,
-      at-entry-limit.entry-limit.ensures.0,
+      c.wanted_sizes-wanted.ensures,
+      c.entry_fields-fields.ensures,
+      c.entry_limit-limit.ensures.0,
     )
 
-cast-length : tie.Need-overflow-cast-length
+cast-length : tie.Need-overflow_cast-length
 cast-length c =
-    let at-structure-ends = c.before.before.before.before.before.before in
-    omega (arith, ends-bound _ _ at-structure-ends.structure-ends.ensures slot_count (omega arith))
+    omega (arith, ends-bound _ _ c.structure_ends-ends.ensures slot_count (omega arith))
 
-sum-below-requires : tie.Need-sum-below-requires
+sum-below-requires : tie.Need-sum_below-requires
 sum-below-requires c κs =
-    let at-heap-sizes = c.before in
-    let at-entry-limit = at-heap-sizes.before.before.before.before.before in
-    omega (arith, sizes-count _ _ _ at-heap-sizes.heap-sizes.ensures, at-entry-limit.entry-limit.ensures.1)
+    omega (arith, sizes-count _ _ _ c.heap_sizes-sizes.ensures, c.entry_limit-limit.ensures.1)
 
-add-length : tie.Need-overflow-add-length
+add-length : tie.Need-overflow_add-length
 add-length c =
-    let at-entry-limit = c.before.before.before.before.before.before.before in
-    let at-structure-ends = at-entry-limit.before in
     omega (
       arith,
-      ends-bound _ _ at-structure-ends.structure-ends.ensures slot_count (omega arith),
-      at-entry-limit.entry-limit.ensures.1,
+      ends-bound _ _ c.structure_ends-ends.ensures slot_count (omega arith),
+      c.entry_limit-limit.ensures.1,
       c.sum_below.ensures.1,
     )
 
-cast-if1 : tie.Need-overflow-cast-if1
+cast-if1 : tie.Need-overflow_cast-length-2
 cast-if1 c =
-    let at-entry-limit = c.before.before.before.before.before.before.before in
-    let at-structure-ends = at-entry-limit.before in
     omega (
       arith,
-      ends-bound _ _ at-structure-ends.structure-ends.ensures slot_count (omega arith),
-      at-entry-limit.entry-limit.ensures.1,
+      ends-bound _ _ c.structure_ends-ends.ensures slot_count (omega arith),
+      c.entry_limit-limit.ensures.1,
       c.sum_below.ensures.1,
     )
 
-returns : tie.Need-returns
+returns : tie.Need-returns-then-room-length
 returns c =
-    let at-sum-below = c.before in
-    let at-heap-sizes = at-sum-below.before.before in
-    let at-entry-limit = at-heap-sizes.before.before.before.before.before in
-    let at-structure-ends = at-entry-limit.before in
-    let at-start = at-structure-ends.before.before.before.before in
-    let a = at-start.args in
+    let a = c.args in
     let size =
-    length-is a.range.now a.strings.now _ _ _ _ (heap_is _ _ _ at-structure-ends.structure-ends.ensures)
-    at-heap-sizes.heap-sizes.ensures at-entry-limit.entry-limit.ensures.0 at-sum-below.sum_below.ensures.0 in
-    ends-want a.range.now a.strings.now a.room.now at-start.requires (omega arith)
+    length-is a.range.now a.strings.now _ _ _ _ (heap_is _ _ _ c.structure_ends-ends.ensures)
+    c.heap_sizes-sizes.ensures c.entry_limit-limit.ensures.0 c.sum_below.ensures.0 in
+    ends-want a.range.now a.strings.now a.room.now c.requires (omega arith)
 
-entry-offsets-requires : tie.Need-entry-offsets-requires
+entry-offsets-requires : tie.Need-entry_offsets-offsets-requires
 entry-offsets-requires c κs =
-    let at-heap-sizes = c.before.before.before.before.before.before in
-    let at-wanted-sizes = at-heap-sizes.before.before.before in
-    let at-entry-fields = at-wanted-sizes.before in
-    let at-entry-limit = at-entry-fields.before in
-    let at-structure-ends = at-entry-limit.before in
-    let at-start = at-structure-ends.before.before.before.before in (
+    let at-start = c.before.before.before.before in (
       accepted-readable _ _ at-start.requires,
-      at-wanted-sizes.wanted-sizes.ensures,
-      at-entry-fields.entry-fields.ensures,
-      at-heap-sizes.heap-sizes.ensures,
-      at-entry-limit.entry-limit.ensures.0,
-      heap_is _ _ _ at-structure-ends.structure-ends.ensures,
+      c.wanted_sizes-wanted.ensures,
+      c.entry_fields-fields.ensures,
+      c.heap_sizes-sizes.ensures,
+      c.entry_limit-limit.ensures.0,
+      heap_is _ _ _ c.structure_ends-ends.ensures,
     )
 
-put-table-requires : tie.Need-put-table-requires
+put-table-requires : tie.Need-put_table-requires
 put-table-requires c κs =
-    let at-entry-offsets = c.before.before.before.before.before.before in
-    let at-if1 = at-entry-offsets.before.before.before.before in
-    let at-sum-below = at-if1.before in
-    let at-heap-sizes = at-sum-below.before.before in
-    let at-wanted-sizes = at-heap-sizes.before.before.before in
-    let at-entry-fields = at-wanted-sizes.before in
-    let at-entry-limit = at-entry-fields.before in
-    let at-structure-ends = at-entry-limit.before in
-    let at-start = at-structure-ends.before.before.before.before in
-    let a = at-start.args in
+    let a = c.args in
     let size =
-    length-is a.range.now a.strings.now _ _ _ _ (heap_is _ _ _ at-structure-ends.structure-ends.ensures)
-    at-heap-sizes.heap-sizes.ensures at-entry-limit.entry-limit.ensures.0
-    at-sum-below.sum_below.ensures.0 in (
-      accepted-readable _ _ at-start.requires,
+    length-is a.range.now a.strings.now _ _ _ _ (heap_is _ _ _ c.structure_ends-ends.ensures)
+    c.heap_sizes-sizes.ensures c.entry_limit-limit.ensures.0
+    c.sum_below.ensures.0 in (
+      accepted-readable _ _ c.requires,
       record {
-        ends-are = at-structure-ends.structure-ends.ensures;
-        fields-are = at-entry-fields.entry-fields.ensures;
-        wanted-are = at-wanted-sizes.wanted-sizes.ensures;
-        sizes-are = at-heap-sizes.heap-sizes.ensures;
-        offsets_are = at-entry-offsets.entry-offsets.ensures;
+        ends-are = c.structure_ends-ends.ensures;
+        fields-are = c.entry_fields-fields.ensures;
+        wanted-are = c.wanted_sizes-wanted.ensures;
+        sizes-are = c.heap_sizes-sizes.ensures;
+        offsets_are = c.entry_offsets-offsets.ensures;
         length-is = size;
       },
-      omega (arith, size, at-if1.if1.false),
+      omega (arith, size, c.if-room-length.false),
     )
 
-returns-2 : tie.Need-returns-2
+returns-2 : tie.Need-returns
 returns-2 c =
-    let at-put-table = c.before.before in
-    let at-if1 = at-put-table.before.before.before.before.before.before.before.before.before.before.before in
-    let at-sum-below = at-if1.before in
-    let at-heap-sizes = at-sum-below.before.before in
-    let at-entry-limit = at-heap-sizes.before.before.before.before.before in
-    let at-structure-ends = at-entry-limit.before in
-    let at-start = at-structure-ends.before.before.before.before in
-    let a = at-start.args in
+    let a = c.args in
     let size =
-    length-is a.range.now a.strings.now _ _ _ _ (heap_is _ _ _ at-structure-ends.structure-ends.ensures)
-    at-heap-sizes.heap-sizes.ensures at-entry-limit.entry-limit.ensures.0 at-sum-below.sum_below.ensures.0 in
-    ends-built a.range.now a.strings.now a.room.now at-start.requires _ _ size
-    (omega (arith, size, at-if1.if1.false)) at-put-table.put-table.ensures
+    length-is a.range.now a.strings.now _ _ _ _ (heap_is _ _ _ c.structure_ends-ends.ensures)
+    c.heap_sizes-sizes.ensures c.entry_limit-limit.ensures.0 c.sum_below.ensures.0 in
+    ends-built a.range.now a.strings.now a.room.now c.requires _ _ size
+    (omega (arith, size, c.if-room-length.false)) c.put_table.ensures
 
-pub build-contents-spec : {M : Type 1} → statement M
-build-contents-spec =
-    tie.close
-    (tie.spec (search rules) (search rules) (search rules) (search rules)
-    (search rules) entry-fields-requires wanted-sizes-requires (search rules)
-    (search rules) heap-sizes-requires cast-length (search rules) sum-below-requires add-length cast-if1 returns
-    (search rules) (search rules) (search rules) entry-offsets-requires (search rules) (search rules) (search rules)
-    (search rules) (search rules) put-table-requires (search rules) returns-2)
+pub build_contents_spec : {M : Type 1} → statement M
+build_contents_spec = tie.close (tie.spec (search rules) (search rules) (search rules) (search rules) (search rules)
+    entry-fields-requires wanted-sizes-requires (search rules) (search rules) heap-sizes-requires cast-length
+    (search rules) sum-below-requires add-length cast-if1 returns (search rules) (search rules) (search rules)
+    entry-offsets-requires (search rules) (search rules) (search rules) (search rules) (search rules)
+    put-table-requires (search rules) returns-2)

@@ -6,8 +6,8 @@ use borrow.Author.Rules.{rules}
 use Rattle.ibft_build.proofs.starts.end_after_extra.Statement.{statement}
 use Rattle.ibft_build.proofs.starts.end_after_extra.Tie as tie
 
-returns : tie.Need-returns
-returns c = after-off _ _ _ _ refl (extras-none _ (sym c.before.extras-given.ensures.0 ∙ c.if1.true) _ c.before.before.before.requires.1)
+returns : tie.Need-returns-then-extras_given-eq0
+returns c = after-off _ _ _ _ refl (extras-none _ (sym c.extras_given.ensures.0 ∙ c.if-extras_given-eq0.true) _ c.requires.1)
 
-pub end-after-extra-spec : {M : Type 1} → statement M
-end-after-extra-spec = tie.close (tie.spec (search rules) returns (search rules) (search rules))
+pub end_after_extra_spec : {M : Type 1} → statement M
+end_after_extra_spec = tie.close (tie.spec (search rules) returns (search rules) (search rules))

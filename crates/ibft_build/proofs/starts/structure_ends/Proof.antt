@@ -30,84 +30,83 @@ module _ (r : List ℕ) (low high : ℕ) (ends : List ℕ) (j : ℕ) (inv : Ende
       let next = end_more r j _ v (inv.3 j (omega arith)) e in
       (omega arith, omega arith, simp length-set inv.2, tabulate-more (end_given r) ends (j + 1) inv.3 (omega arith) v next)
 
-abbrev invariant-loop : tie.invariant-loop
+abbrev invariant-loop : tie.invariant-loop-j
 invariant-loop range start ends₀ j₀ ends j = Ended range 0 3 ends j
 
-abbrev decreases-loop : tie.decreases-loop
+abbrev decreases-loop : tie.decreases-loop-j
 decreases-loop range start ends₀ j₀ ends j = 3 - j
 
-abbrev invariant-loop2 : tie.invariant-loop2
+abbrev invariant-loop2 : tie.invariant-loop-j-2
 invariant-loop2 range start ends₀ j₀ ends j = Ended range 3 9 ends j
 
-abbrev decreases-loop2 : tie.decreases-loop2
+abbrev decreases-loop2 : tie.decreases-loop-j-2
 decreases-loop2 range start ends₀ j₀ ends j = 9 - j
 
-abbrev invariant-loop3 : tie.invariant-loop3
+abbrev invariant-loop3 : tie.invariant-loop-j-3
 invariant-loop3 range start ends₀ j₀ ends j = Ended range 9 11 ends j
 
-abbrev decreases-loop3 : tie.decreases-loop3
+abbrev decreases-loop3 : tie.decreases-loop-j-3
 decreases-loop3 range start ends₀ j₀ ends j = 11 - j
 
-abbrev invariant-loop4 : tie.invariant-loop4
+abbrev invariant-loop4 : tie.invariant-loop-j-4
 invariant-loop4 range start ends₀ j₀ ends j = Ended range 11 slot_count ends j
 
-abbrev decreases-loop4 : tie.decreases-loop4
+abbrev decreases-loop4 : tie.decreases-loop-j-4
 decreases-loop4 range start ends₀ j₀ ends j = slot_count - j
 
-loop-holds : tie.Need-loop-init invariant-loop decreases-loop invariant-loop2 decreases-loop2 invariant-loop3 decreases-loop3 invariant-loop4 decreases-loop4
-loop-holds c = (search rules, search rules, search rules, λ i h. let e : i ≡ 0 = omega arith in rw e (c.control-end.ensures.0 ∙ end-first _))
+loop-holds : tie.Need-loop-j-init invariant-loop decreases-loop invariant-loop2 decreases-loop2 invariant-loop3 decreases-loop3 invariant-loop4 decreases-loop4
+loop-holds c = (search rules, search rules, search rules, λ i h. let e : i ≡ 0 = omega arith in rw e (c.control_end-start.ensures.0 ∙ end-first _))
 
-end-after-requires : tie.Need-end-after-requires invariant-loop decreases-loop invariant-loop2 decreases-loop2 invariant-loop3 decreases-loop3 invariant-loop4 decreases-loop4
-end-after-requires c κs = let l = c.before.loop in ended-small _ _ _ l.ends _ l.invariant (omega arith) (omega arith)
+end-after-requires : tie.Need-end_after-requires invariant-loop decreases-loop invariant-loop2 decreases-loop2 invariant-loop3 decreases-loop3 invariant-loop4 decreases-loop4
+end-after-requires c κs = let l = c.loop-j in ended-small _ _ _ l.ends _ l.invariant (omega arith) (omega arith)
 
-loop-again : tie.Need-loop-preserved invariant-loop decreases-loop invariant-loop2 decreases-loop2 invariant-loop3 decreases-loop3 invariant-loop4 decreases-loop4
-loop-again c = let l = c.before.before.loop in ended-more _ _ _ l.ends _ l.invariant (omega arith) (omega arith) _ c.end_after.ensures
+loop-again : tie.Need-loop-j-preserved invariant-loop decreases-loop invariant-loop2 decreases-loop2 invariant-loop3 decreases-loop3 invariant-loop4 decreases-loop4
+loop-again c = let l = c.loop-j in ended-more _ _ _ l.ends _ l.invariant (omega arith) (omega arith) _ c.end_after.ensures
 
-loop2-holds : tie.Need-loop2-init invariant-loop decreases-loop invariant-loop2 decreases-loop2 invariant-loop3 decreases-loop3 invariant-loop4 decreases-loop4
-loop2-holds c = let inv = c.before.loop.invariant in (omega arith, omega arith, inv.2, inv.3)
+loop2-holds : tie.Need-loop-j-2-init invariant-loop decreases-loop invariant-loop2 decreases-loop2 invariant-loop3 decreases-loop3 invariant-loop4 decreases-loop4
+loop2-holds c = let inv = c.loop-j.invariant in (omega arith, omega arith, inv.2, inv.3)
 
-end-after-extra-requires : tie.Need-end-after-extra-requires invariant-loop decreases-loop invariant-loop2 decreases-loop2 invariant-loop3 decreases-loop3 invariant-loop4 decreases-loop4
+end-after-extra-requires : tie.Need-end_after_extra-requires invariant-loop decreases-loop invariant-loop2 decreases-loop2 invariant-loop3 decreases-loop3 invariant-loop4 decreases-loop4
 end-after-extra-requires c κs =
-    let l = c.before.loop2 in
+    let l = c.loop-j-2 in
     (ended-small _ _ _ l.ends _ l.invariant (omega arith) (omega arith), extra-turn _ (omega arith) (omega arith) (λ l. omega arith))
 
-loop2-again : tie.Need-loop2-preserved invariant-loop decreases-loop invariant-loop2 decreases-loop2 invariant-loop3 decreases-loop3 invariant-loop4 decreases-loop4
-loop2-again c = let l = c.before.before.loop2 in ended-more _ _ _ l.ends _ l.invariant (omega arith) (omega arith) _ c.end-after-extra.ensures
+loop2-again : tie.Need-loop-j-2-preserved invariant-loop decreases-loop invariant-loop2 decreases-loop2 invariant-loop3 decreases-loop3 invariant-loop4 decreases-loop4
+loop2-again c = let l = c.loop-j-2 in ended-more _ _ _ l.ends _ l.invariant (omega arith) (omega arith) _ c.end_after_extra.ensures
 
-loop3-holds : tie.Need-loop3-init invariant-loop decreases-loop invariant-loop2 decreases-loop2 invariant-loop3 decreases-loop3 invariant-loop4 decreases-loop4
-loop3-holds c = let inv = c.before.loop2.invariant in (omega arith, omega arith, inv.2, inv.3)
+loop3-holds : tie.Need-loop-j-3-init invariant-loop decreases-loop invariant-loop2 decreases-loop2 invariant-loop3 decreases-loop3 invariant-loop4 decreases-loop4
+loop3-holds c = let inv = c.loop-j-2.invariant in (omega arith, omega arith, inv.2, inv.3)
 
-end-after-requires-2 : tie.Need-end-after-requires-2 invariant-loop decreases-loop invariant-loop2 decreases-loop2 invariant-loop3 decreases-loop3 invariant-loop4 decreases-loop4
-end-after-requires-2 c κs = let l = c.before.loop3 in ended-small _ _ _ l.ends _ l.invariant (omega arith) (omega arith)
+end-after-requires-2 : tie.Need-end_after-requires-in-loop-j-3 invariant-loop decreases-loop invariant-loop2 decreases-loop2 invariant-loop3 decreases-loop3 invariant-loop4 decreases-loop4
+end-after-requires-2 c κs = let l = c.loop-j-3 in ended-small _ _ _ l.ends _ l.invariant (omega arith) (omega arith)
 
-loop3-again : tie.Need-loop3-preserved invariant-loop decreases-loop invariant-loop2 decreases-loop2 invariant-loop3 decreases-loop3 invariant-loop4 decreases-loop4
-loop3-again c = let l = c.before.before.loop3 in ended-more _ _ _ l.ends _ l.invariant (omega arith) (omega arith) _ c.end-after2.ensures
+loop3-again : tie.Need-loop-j-3-preserved invariant-loop decreases-loop invariant-loop2 decreases-loop2 invariant-loop3 decreases-loop3 invariant-loop4 decreases-loop4
+loop3-again c = let l = c.loop-j-3 in ended-more _ _ _ l.ends _ l.invariant (omega arith) (omega arith) _ c.end_after-in-loop-j-3.ensures
 
-loop4-holds : tie.Need-loop4-init invariant-loop decreases-loop invariant-loop2 decreases-loop2 invariant-loop3 decreases-loop3 invariant-loop4 decreases-loop4
-loop4-holds c = let inv = c.before.loop3.invariant in (omega arith, omega arith, inv.2, inv.3)
+loop4-holds : tie.Need-loop-j-4-init invariant-loop decreases-loop invariant-loop2 decreases-loop2 invariant-loop3 decreases-loop3 invariant-loop4 decreases-loop4
+loop4-holds c = let inv = c.loop-j-3.invariant in (omega arith, omega arith, inv.2, inv.3)
 
-end-after-extra-requires-2 : tie.Need-end-after-extra-requires-2 invariant-loop decreases-loop invariant-loop2 decreases-loop2 invariant-loop3 decreases-loop3 invariant-loop4 decreases-loop4
+end-after-extra-requires-2 : tie.Need-end_after_extra-requires-in-loop-j-4 invariant-loop decreases-loop invariant-loop2 decreases-loop2 invariant-loop3 decreases-loop3 invariant-loop4 decreases-loop4
 end-after-extra-requires-2 c κs =
-    let l = c.before.loop4 in
+    let l = c.loop-j-4 in
     (ended-small _ _ _ l.ends _ l.invariant (omega arith) (omega arith), extra-turn _ (omega arith) (omega arith) (λ l. omega arith))
 
-loop4-again : tie.Need-loop4-preserved invariant-loop decreases-loop invariant-loop2 decreases-loop2 invariant-loop3 decreases-loop3 invariant-loop4 decreases-loop4
-loop4-again c = let l = c.before.before.loop4 in ended-more _ _ _ l.ends _ l.invariant (omega arith) (omega arith) _ c.end-after-extra2.ensures
+loop4-again : tie.Need-loop-j-4-preserved invariant-loop decreases-loop invariant-loop2 decreases-loop2 invariant-loop3 decreases-loop3 invariant-loop4 decreases-loop4
+loop4-again c = let l = c.loop-j-4 in ended-more _ _ _ l.ends _ l.invariant (omega arith) (omega arith) _ c.end_after_extra-in-loop-j-4.ensures
 
 returns : tie.Need-returns invariant-loop decreases-loop invariant-loop2 decreases-loop2 invariant-loop3 decreases-loop3 invariant-loop4 decreases-loop4
 unfolding structure_ends
 returns c =
-    let at-loop4 = c.before in
-    let at-start = at-loop4.before.before.before.before.before.before.before.before.before in
-    let l = at-loop4.loop4 in
-    tabulate-done (end_given at-start.args.range.now) l.ends (l.j + 1) l.invariant.3 (slot_count + 1) l.invariant.2 (omega arith)
+    let l = c.loop-j-4 in
+    tabulate-done (end_given c.args.range.now) l.ends (l.j + 1) l.invariant.3 (slot_count + 1) l.invariant.2 (omega arith)
 
-pub structure-ends-spec : {M : Type 1} → statement M
-structure-ends-spec = tie.close (tie.spec invariant-loop decreases-loop invariant-loop2 decreases-loop2 invariant-loop3 decreases-loop3 invariant-loop4 decreases-loop4
-    (search rules) loop-holds (search rules) (search rules) (search rules) end-after-requires (search rules) (search rules)
-    (search rules) (search rules) (search rules) (search rules) loop-again loop2-holds (search rules) (search rules)
-    (search rules) end-after-extra-requires (search rules) (search rules) (search rules) (search rules) (search rules)
-    (search rules) loop2-again loop3-holds (search rules) (search rules) (search rules) end-after-requires-2 (search rules)
+pub structure_ends_spec : {M : Type 1} → statement M
+structure_ends_spec = tie.close (tie.spec invariant-loop decreases-loop invariant-loop2 decreases-loop2
+    invariant-loop3 decreases-loop3 invariant-loop4 decreases-loop4 (search rules) loop-holds (search rules)
+    (search rules) (search rules) end-after-requires (search rules) (search rules) (search rules) (search rules)
+    (search rules) (search rules) loop-again loop2-holds (search rules) (search rules) (search rules)
+    end-after-extra-requires (search rules) (search rules) (search rules) (search rules) (search rules) (search rules)
+    loop2-again loop3-holds (search rules) (search rules) (search rules) end-after-requires-2 (search rules)
     (search rules) (search rules) (search rules) (search rules) (search rules) loop3-again loop4-holds (search rules)
-    (search rules) (search rules) end-after-extra-requires-2 (search rules) (search rules) (search rules) (search rules)
-    (search rules) (search rules) loop4-again returns)
+    (search rules) (search rules) end-after-extra-requires-2 (search rules) (search rules) (search rules)
+    (search rules) (search rules) (search rules) loop4-again returns)

@@ -7,31 +7,23 @@ use borrow.Author.Rules.{rules}
 use Rattle.ibft_build.proofs.starts.structure_start.Statement.{statement}
 use Rattle.ibft_build.proofs.starts.structure_start.Tie as tie
 
-shared-slice-read-aligned : tie.Need-shared-slice-read-aligned
+shared-slice-read-aligned : tie.Need-bounds-ends-turn_of
 shared-slice-read-aligned c =
-    let at-turn-of = c.before in
-    let at-start = at-turn-of.before.before.before.before.before in
-    omega (arith, at-turn-of.turn-of.ensures.1, ends-count _ _ at-start.requires)
+    omega (arith, c.turn_of.ensures.1, ends-count _ _ c.requires)
 
 aligned-requires : tie.Need-aligned-requires
 aligned-requires c κs =
-    let at-turn-of = c.before in
-    let at-start = at-turn-of.before.before.before.before.before in
-    omega (arith, ends-bound _ _ at-start.requires at-turn-of.turn-of.result at-turn-of.turn-of.ensures.1)
+    omega (arith, ends-bound _ _ c.requires c.turn_of.result c.turn_of.ensures.1)
 
-returns : tie.Need-returns
+returns : tie.Need-returns-then-structure_given
 returns c =
-    let at-turn-of = c.before.before in
-    let at-if1 = at-turn-of.before in
-    let at-structure-given = at-if1.before in
-    let at-start = at-structure-given.before.before.before in
-    let turn = at-turn-of.turn-of.ensures in
-    start-on _ _ (sym at-structure-given.structure-given.ensures ∙ at-if1.if1.true) _ _ turn.0
-    (ends_at _ _ at-start.requires _ turn.1) _ c.aligned.ensures
+    let turn = c.turn_of.ensures in
+    start-on _ _ (sym c.structure_given.ensures ∙ c.if-structure_given.true) _ _ turn.0
+    (ends_at _ _ c.requires _ turn.1) _ c.aligned.ensures
 
-returns-2 : tie.Need-returns-2
-returns-2 c = start-off _ _ (sym c.before.structure-given.ensures ∙ c.if1.false)
+returns-2 : tie.Need-returns
+returns-2 c = start-off _ _ (sym c.structure_given.ensures ∙ c.if-structure_given.false)
 
-pub structure-start-spec : {M : Type 1} → statement M
-structure-start-spec = tie.close (tie.spec (search rules) (search rules) (search rules)
-    (search rules) shared-slice-read-aligned aligned-requires returns returns-2)
+pub structure_start_spec : {M : Type 1} → statement M
+structure_start_spec = tie.close (tie.spec (search rules) (search rules) (search rules) (search rules)
+    shared-slice-read-aligned aligned-requires returns returns-2)

@@ -22,29 +22,14 @@ none_below : (k n : ℕ) → NoneBelow k n → n ≤ k
 none_below k zero none = omega arith
 none_below k (suc n) none = omega (arith, none_below k n none.0, none.1)
 
-past : tie.Need-returns-18
-past c = (turn-past _ (none_below _ slot_count c.match.rest), omega arith)
+past : tie.Need-returns-in_default
+past c = (turn-past _ (none_below _ slot_count c.in_default.in_default-own.rest), omega arith)
 
-pub turn-of-spec : {M : Type 1} → statement M
+pub turn_of_spec : {M : Type 1} → statement M
 unfolding turn_of first built_slot
-turn-of-spec =
-    tie.close
-    (tie.spec
-    (λ c. row 0 _ _ c.match.keys1 refl)
-    (λ c. row 1 _ _ c.match.keys2 refl)
-    (λ c. row 2 _ _ c.match.keys3 refl)
-    (λ c. row 3 _ _ c.match.keys4 refl)
-    (λ c. row 4 _ _ c.match.keys5 refl)
-    (λ c. row 5 _ _ c.match.keys6 refl)
-    (λ c. row 6 _ _ c.match.keys7 refl)
-    (λ c. row 7 _ _ c.match.keys8 refl)
-    (λ c. row 8 _ _ c.match.keys9 refl)
-    (λ c. row 9 _ _ c.match.keys10 refl)
-    (λ c. row 10 _ _ c.match.keys11 refl)
-    (λ c. row 11 _ _ c.match.keys12 refl)
-    (λ c. row 12 _ _ c.match.keys13 refl)
-    (λ c. row 13 _ _ c.match.keys14 refl)
-    (λ c. row 14 _ _ c.match.keys15 refl)
-    (λ c. row 15 _ _ c.match.keys16 refl)
-    (λ c. row 16 _ _ c.match.keys17 refl)
-    past)
+turn_of_spec = tie.close (tie.spec (λ c. row 0 _ _ c.in-0.is refl) (λ c. row 1 _ _ c.in-1.is refl)
+    (λ c. row 2 _ _ c.in-2.is refl) (λ c. row 3 _ _ c.in-3.is refl) (λ c. row 4 _ _ c.in-4.is refl)
+    (λ c. row 5 _ _ c.in-5.is refl) (λ c. row 6 _ _ c.in-6.is refl) (λ c. row 7 _ _ c.in-7.is refl)
+    (λ c. row 8 _ _ c.in-8.is refl) (λ c. row 9 _ _ c.in-9.is refl) (λ c. row 10 _ _ c.in-10.is refl)
+    (λ c. row 11 _ _ c.in-11.is refl) (λ c. row 12 _ _ c.in-12.is refl) (λ c. row 13 _ _ c.in-13.is refl)
+    (λ c. row 14 _ _ c.in-14.is refl) (λ c. row 15 _ _ c.in-15.is refl) (λ c. row 16 _ _ c.in-16.is refl) past)

@@ -8,15 +8,15 @@ use borrow.Author.Rules.{rules}
 use Rattle.ibft_build.proofs.stored.begins_differently.Statement.{statement}
 use Rattle.ibft_build.proofs.stored.begins_differently.Tie as tie
 
-returns : tie.Need-returns
+returns : tie.Need-returns-then-size-eq0
 returns c on = clash on refl
 
-returns-2 : tie.Need-returns-2
+returns-2 : tie.Need-returns
 returns-2 c on =
-    let at-start = c.before.before.before in
-    let a = at-start.args in
-    let p = at-start.requires in
-    tail-first a.strings.now a.start a.size a.other a.other-size p.0 p.1 (omega arith) p.2 (eqb-false _ _ (not-true _ on))
+    let a = c.args in
+    let p = c.requires in
+    tail-first a.strings.now a.start a.size a.other a.other_size p.0 p.1 (omega arith) p.2 (eqb-false _ _ (not-true _ on))
 
-pub begins-differently-spec : {M : Type 1} → statement M
-begins-differently-spec = tie.close (tie.spec returns (search rules) (search rules) (search rules) (search rules) returns-2)
+pub begins_differently_spec : {M : Type 1} → statement M
+begins_differently_spec = tie.close (tie.spec returns (search rules) (search rules) (search rules) (search rules)
+    returns-2)

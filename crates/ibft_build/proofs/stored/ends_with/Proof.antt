@@ -12,12 +12,12 @@ use Rattle.ibft_build.proofs.stored.ends_with.Tie as tie
 returns : tie.Need-returns
 unfolding part
 returns c =
-    let a = c.before.before.before.before.args in
+    let a = c.args in
     let s : List ℕ = a.strings.now in
     let n : a.start + a.size - a.start ≡ a.size = omega arith in
-    let m : a.other + a.other-size - a.other ≡ a.other-size = omega arith in
-    c.is-tail.ensures ∙ ap₂ (λ (x y : ℕ). is_tail (part s a.start x) (part s a.other y)) n m
+    let m : a.other + a.other_size - a.other ≡ a.other_size = omega arith in
+    c.is_tail.ensures ∙ ap₂ (λ (x y : ℕ). is_tail (part s a.start x) (part s a.other y)) n m
 
-pub ends-with-spec : {M : Type 1} → statement M
-ends-with-spec = tie.close (tie.spec (search rules) (search rules) (search rules) (search rules) (search rules)
+pub ends_with_spec : {M : Type 1} → statement M
+ends_with_spec = tie.close (tie.spec (search rules) (search rules) (search rules) (search rules) (search rules)
     (search rules) (search rules) (search rules) (search rules) returns)

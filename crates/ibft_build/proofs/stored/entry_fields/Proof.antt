@@ -14,50 +14,43 @@ use borrow.Author.Rules.{rules}
 use Rattle.ibft_build.proofs.stored.entry_fields.Statement.{statement}
 use Rattle.ibft_build.proofs.stored.entry_fields.Tie as tie
 
-abbrev invariant-loop : tie.invariant-loop
+abbrev invariant-loop : tie.invariant-loop-n
 invariant-loop range limit fields₀ n₀ fields n = (n ≤ named_entries) × (length fields ≡ entry_count) × Filled (field_given range) n fields
 
-abbrev decreases-loop : tie.decreases-loop
+abbrev decreases-loop : tie.decreases-loop-n
 decreases-loop range limit fields₀ n₀ fields n = named_entries - n
 
-abbrev invariant-loop2 : tie.invariant-loop2
+abbrev invariant-loop2 : tie.invariant-loop-n-2
 invariant-loop2 range limit fields₀ n₀ fields n =
     (named_entries ≤ n) × (limit ≤ entry_count) × (length fields ≡ entry_count) × Filled (field_given range) n fields
 
-abbrev decreases-loop2 : tie.decreases-loop2
+abbrev decreases-loop2 : tie.decreases-loop-n-2
 decreases-loop2 range limit fields₀ n₀ fields n = limit - n
 
-loop-holds : tie.Need-loop-init invariant-loop decreases-loop invariant-loop2 decreases-loop2
+loop-holds : tie.Need-loop-n-init invariant-loop decreases-loop invariant-loop2 decreases-loop2
 loop-holds c = (search rules, search rules, filled_none _ entry_count)
 
-loop-again : tie.Need-loop-preserved invariant-loop decreases-loop invariant-loop2 decreases-loop2
+loop-again : tie.Need-loop-n-preserved invariant-loop decreases-loop invariant-loop2 decreases-loop2
 loop-again c =
-    let at-loop = c.before.before in
-    let at-start = at-loop.before.before in
-    let l = at-loop.loop in
-    let least = entry-limit-least at-start.args.range.now in (
+    let l = c.loop-n in
+    let least = entry-limit-least c.args.range.now in (
       omega arith,
       simp length-set l.invariant.1,
-      filled_more _ l.fields l.n l.invariant.2 (omega arith) c.named-field.result (c.named-field.ensures ∙ field-on _ _ (omega arith)),
+      filled_more _ l.fields l.n l.invariant.2 (omega arith) c.named_field.result (c.named_field.ensures ∙ field-on _ _ (omega arith)),
     )
 
-loop2-holds : tie.Need-loop2-init invariant-loop decreases-loop invariant-loop2 decreases-loop2
-loop2-holds c = let inv = c.before.loop.invariant in (omega arith, limit-most _ _ c.before.before.before.requires, inv.1, inv.2)
+loop2-holds : tie.Need-loop-n-2-init invariant-loop decreases-loop invariant-loop2 decreases-loop2
+loop2-holds c = let inv = c.loop-n.invariant in (omega arith, limit-most _ _ c.requires, inv.1, inv.2)
 
-cast-fields-2 : tie.Need-overflow-cast-fields-2 invariant-loop decreases-loop invariant-loop2 decreases-loop2
+cast-fields-2 : tie.Need-overflow_cast-fields-in-loop-n-2 invariant-loop decreases-loop invariant-loop2 decreases-loop2
 cast-fields-2 c =
-    let at-loop2 = c.before.before in
-    let at-shared-slice-known = at-loop2.before.before.before in
-    let at-start = at-shared-slice-known.before in
-    let small = at-shared-slice-known.shared-slice-known.given base_size in
-    omega (arith, c.field_at.ensures, field-small at-start.args.range.now at-loop2.loop2.n (omega arith) (omega arith) (omega arith))
+    let small = c.shared_slice_known-1.given base_size in
+    omega (arith, c.field_at.ensures, field-small c.args.range.now c.loop-n-2.n (omega arith) (omega arith) (omega arith))
 
-loop2-again : tie.Need-loop2-preserved invariant-loop decreases-loop invariant-loop2 decreases-loop2
+loop2-again : tie.Need-loop-n-2-preserved invariant-loop decreases-loop invariant-loop2 decreases-loop2
 loop2-again c =
-    let at-loop2 = c.before.before in
-    let at-start = at-loop2.before.before.before.before in
-    let l = at-loop2.loop2 in
-    let limit = at-start.requires in (
+    let l = c.loop-n-2 in
+    let limit = c.requires in (
       omega arith,
       l.invariant.1,
       simp length-set l.invariant.2,
@@ -67,13 +60,12 @@ loop2-again c =
 returns : tie.Need-returns invariant-loop decreases-loop invariant-loop2 decreases-loop2
 unfolding entry_fields
 returns c =
-    let at-loop2 = c.before in
-    let at-start = at-loop2.before.before.before.before in
-    let l = at-loop2.loop2 in
-    let limit = at-start.requires in
+    let l = c.loop-n-2 in
+    let limit = c.requires in
     filled-done _ l.fields l.n l.invariant.3 entry_count l.invariant.2 (λ j h. field_past _ j (omega arith))
 
-pub entry-fields-spec : {M : Type 1} → statement M
-entry-fields-spec = tie.close (tie.spec invariant-loop decreases-loop invariant-loop2 decreases-loop2 loop-holds (search rules) (search rules)
-    (search rules) (search rules) (search rules) (search rules) loop-again loop2-holds (search rules) cast-fields-2
-    (search rules) (search rules) (search rules) (search rules) (search rules) loop2-again returns)
+pub entry_fields_spec : {M : Type 1} → statement M
+entry_fields_spec = tie.close (tie.spec invariant-loop decreases-loop invariant-loop2 decreases-loop2 loop-holds
+    (search rules) (search rules) (search rules) (search rules) (search rules) (search rules) loop-again loop2-holds
+    (search rules) cast-fields-2 (search rules) (search rules) (search rules) (search rules) (search rules)
+    loop2-again returns)

@@ -6,25 +6,21 @@ use borrow.Author.Rules.{rules}
 use Rattle.ibft_build.proofs.stored.heap_size.Statement.{statement}
 use Rattle.ibft_build.proofs.stored.heap_size.Tie as tie
 
-is-stored-requires : tie.Need-is-stored-requires
-is-stored-requires c κs = c.before.before.before.before.requires
+is-stored-requires : tie.Need-is_stored-requires
+is-stored-requires c κs = c.requires
 
-shared-slice-read-result : tie.Need-shared-slice-read-result
+shared-slice-read-result : tie.Need-bounds-wanted-i
 shared-slice-read-result c =
-    let at-start = c.before.before.before.before.before.before.before in
-    let p = at-start.requires in omega (arith, wanted-count _ _ p.1, limit-below _ _ p.4)
+    let p = c.requires in omega (arith, wanted-count _ _ p.1, limit-below _ _ p.4)
 
-returns : tie.Need-returns
+returns : tie.Need-returns-then-is_stored
 returns c =
-    let at-if1 = c.before in
-    let at-is-stored = at-if1.before in
-    let at-start = at-is-stored.before.before.before.before.before in
-    let p = at-start.requires in
+    let p = c.requires in
     let h = limit-below _ _ p.4 in
-    size-stored _ _ _ _ (wanted-at _ _ p.1 _ h) p.0 h _ at-is-stored.is-stored.ensures at-if1.if1.true
+    size-stored _ _ _ _ (wanted-at _ _ p.1 _ h) p.0 h _ c.is_stored.ensures c.if-is_stored.true
 
-returns-2 : tie.Need-returns-2
-returns-2 c = size_none _ _ _ _ c.before.is-stored.ensures c.if1.false
+returns-2 : tie.Need-returns
+returns-2 c = size_none _ _ _ _ c.is_stored.ensures c.if-is_stored.false
 
-pub heap-size-spec : {M : Type 1} → statement M
-heap-size-spec = tie.close (tie.spec is-stored-requires (search rules) shared-slice-read-result returns returns-2)
+pub heap_size_spec : {M : Type 1} → statement M
+heap_size_spec = tie.close (tie.spec is-stored-requires (search rules) shared-slice-read-result returns returns-2)

@@ -16,32 +16,30 @@ use borrow.Author.Rules.{rules}
 use Rattle.ibft_build.proofs.stored.is_covered.Statement.{statement}
 use Rattle.ibft_build.proofs.stored.is_covered.Tie as tie
 
-abbrev invariant-loop : tie.invariant-loop
+abbrev invariant-loop : tie.invariant-loop-j
 invariant-loop range strings wanted fields limit i start size j₀ j =
     (limit ≤ entry_count) × ((k : ℕ) → k < j → covered_by may_share i (part strings start size) k (entries_given range strings k) ≡ false)
 
-abbrev decreases-loop : tie.decreases-loop
+abbrev decreases-loop : tie.decreases-loop-j
 decreases-loop range strings wanted fields limit i start size j₀ j = entry_count - j
 
-loop-holds : tie.Need-loop-init invariant-loop decreases-loop
-loop-holds c = (limit-most _ _ c.before.before.before.before.requires.3, below_none _)
+loop-holds : tie.Need-loop-j-init invariant-loop decreases-loop
+loop-holds c = (limit-most _ _ c.requires.3, below_none _)
 
-is-covered-by-requires : tie.Need-is-covered-by-requires invariant-loop decreases-loop
+is-covered-by-requires : tie.Need-is_covered_by-requires invariant-loop decreases-loop
 is-covered-by-requires c κs =
-    let at-start = c.before.before.before.before.before.before in
-    let p = at-start.requires in (p.0, p.1, p.2, p.4, omega (arith, p.3))
+    let p = c.requires in (p.0, p.1, p.2, p.4, omega (arith, p.3))
 
-returns : tie.Need-returns invariant-loop decreases-loop
-returns c = sym (any-yes _ _ c.before.before.before.loop.j (search rules) (sym c.before.is-covered-by.ensures ∙ c.if1.true))
+returns : tie.Need-returns-then-is_covered_by invariant-loop decreases-loop
+returns c = sym (any-yes _ _ c.loop-j.j (search rules) (sym c.is_covered_by.ensures ∙ c.if-is_covered_by.true))
 
-loop-again : tie.Need-loop-preserved invariant-loop decreases-loop
-loop-again c = (search rules, below_more _ _ c.before.before.before.loop.invariant.1 (sym c.before.is-covered-by.ensures ∙ c.if1.false))
+loop-again : tie.Need-loop-j-preserved invariant-loop decreases-loop
+loop-again c = (search rules, below_more _ _ c.loop-j.invariant.1 (sym c.is_covered_by.ensures ∙ c.if-is_covered_by.false))
 
-returns-2 : tie.Need-returns-2 invariant-loop decreases-loop
+returns-2 : tie.Need-returns invariant-loop decreases-loop
 returns-2 c =
-    let at-loop = c.before in
-    let at-start = at-loop.before.before.before.before.before in
-    let limit = at-start.requires.3 in covered_none _ _ _ _ (λ k l. at-loop.loop.invariant.1 k (omega arith))
+    let limit = c.requires.3 in covered_none _ _ _ _ (λ k l. c.loop-j.invariant.1 k (omega arith))
 
-pub is-covered-spec : {M : Type 1} → statement M
-is-covered-spec = tie.close (tie.spec invariant-loop decreases-loop loop-holds is-covered-by-requires returns (search rules) (search rules) loop-again returns-2)
+pub is_covered_spec : {M : Type 1} → statement M
+is_covered_spec = tie.close (tie.spec invariant-loop decreases-loop loop-holds is-covered-by-requires returns
+    (search rules) (search rules) loop-again returns-2)

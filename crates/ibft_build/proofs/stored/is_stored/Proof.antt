@@ -9,49 +9,41 @@ use borrow.Author.Rules.{rules}
 use Rattle.ibft_build.proofs.stored.is_stored.Statement.{statement}
 use Rattle.ibft_build.proofs.stored.is_stored.Tie as tie
 
-shared-slice-read-size : tie.Need-shared-slice-read-size
-shared-slice-read-size c = let p = c.before.before.before.before.before.requires in omega (arith, wanted-count _ _ p.1, limit-below _ _ p.4)
+shared-slice-read-size : tie.Need-bounds-wanted-i
+shared-slice-read-size c = let p = c.requires in omega (arith, wanted-count _ _ p.1, limit-below _ _ p.4)
 
-cast-size : tie.Need-overflow-cast-size
-cast-size c = omega (arith, c.shared-slice-known5.given c.before.before.before.before.before.args.i)
+cast-size : tie.Need-overflow_cast-size-2
+cast-size c = omega (arith, c.shared_slice_known-5-1.given c.args.i)
 
-returns : tie.Need-returns
+returns : tie.Need-returns-then-size-eq0
 returns c =
-    let at-start = c.before.before.before.before.before.before in
-    let p = at-start.requires in
+    let p = c.requires in
     stored-missing _ _ _ _ (wanted-at _ _ p.1 _ (limit-below _ _ p.4)) (search rules)
 
-returns-2 : tie.Need-returns-2
+returns-2 : tie.Need-returns-then-not-may_share
 returns-2 c =
-    let at-may-share = c.before in
-    let at-start = at-may-share.before.before.before.before.before.before.before in
-    let p = at-start.requires in
+    let p = c.requires in
     let h = limit-below _ _ p.4 in
-    stored-secret _ _ _ _ (wanted-at _ _ p.1 _ h) p.0 h (omega arith) (sym at-may-share.may-share.ensures ∙ not-true _ c.if2.true)
+    stored-secret _ _ _ _ (wanted-at _ _ p.1 _ h) p.0 h (omega arith) (sym c.may_share.ensures ∙ c.if-not-may_share.true)
 
-start-at-requires : tie.Need-start-at-requires
+start-at-requires : tie.Need-start_at-requires
 start-at-requires c κs =
-    let at-start = c.before.before.before.before.before.before.before.before in
-    let p = at-start.requires in (p.2, p.4)
+    let p = c.requires in (p.2, p.4)
 
-is-covered-requires : tie.Need-is-covered-requires
+is-covered-requires : tie.Need-is_covered-requires
 is-covered-requires c κs =
-    let at-start = c.before.before.before.before.before.before.before.before.before in
-    let p = at-start.requires in
+    let p = c.requires in
     let h = limit-below _ _ p.4 in
-    let lies = lies_at _ _ _ p.0 h _ _ (wanted-at _ _ p.1 _ h) (omega arith) c.start-at.ensures in
+    let lies = lies_at _ _ _ p.0 h _ _ (wanted-at _ _ p.1 _ h) (omega arith) c.start_at.ensures in
     (p.0, p.1, p.2, p.3, lies.fits)
 
-returns-3 : tie.Need-returns-3
+returns-3 : tie.Need-returns
 returns-3 c =
-    let at-start-at = c.before in
-    let at-start = at-start-at.before.before.before.before.before.before.before.before.before in
-    let p = at-start.requires in
+    let p = c.requires in
     let h = limit-below _ _ p.4 in
-    let plain = at-start-at.before in
-    stored_is _ _ _ _ (wanted-at _ _ p.1 _ h) p.0 h (omega arith) (sym plain.before.may-share.ensures ∙ not-false _ plain.if2.false) _
-    at-start-at.start-at.ensures _ c.is-covered.ensures
+    stored_is _ _ _ _ (wanted-at _ _ p.1 _ h) p.0 h (omega arith) (sym c.may_share.ensures ∙ c.if-not-may_share.false) _
+    c.start_at.ensures _ c.is_covered.ensures
 
-pub is-stored-spec : {M : Type 1} → statement M
-is-stored-spec = tie.close (tie.spec (search rules) shared-slice-read-size cast-size returns
-    (search rules) returns-2 start-at-requires (search rules) (search rules) is-covered-requires returns-3)
+pub is_stored_spec : {M : Type 1} → statement M
+is_stored_spec = tie.close (tie.spec (search rules) shared-slice-read-size cast-size returns (search rules) returns-2
+    start-at-requires (search rules) (search rules) is-covered-requires returns-3)

@@ -7,15 +7,13 @@ use borrow.Author.Rules.{rules}
 use Rattle.ibft_build.proofs.stored.named_field.Statement.{statement}
 use Rattle.ibft_build.proofs.stored.named_field.Tie as tie
 
-add-result : tie.Need-overflow-add-result
+add-result : tie.Need-overflow_add-result
 add-result c =
-    let at-string-of = c.before.before in
-    let at-start = at-string-of.before.before in
-    let n = at-start.args.n in
-    omega (arith, string-low n (omega arith), ap (λ (s : StringShape). s.at) at-string-of.string-of.ensures)
+    let n = c.args.n in
+    omega (arith, string-low n (omega arith), ap (λ (s : StringShape). s.at) c.string_of-at.ensures)
 
 returns : tie.Need-returns
-returns c = rw (c.image-at.ensures.0, c.before.owner_of.ensures, c.before.before.string-of.ensures)
+returns c = rw (c.image_at.ensures.0, c.owner_of.ensures, c.string_of-at.ensures)
 
-pub named-field-spec : {M : Type 1} → statement M
-named-field-spec = tie.close (tie.spec (search rules) (search rules) (search rules) add-result returns)
+pub named_field_spec : {M : Type 1} → statement M
+named_field_spec = tie.close (tie.spec (search rules) (search rules) (search rules) add-result returns)

@@ -10,27 +10,20 @@ use borrow.Author.Rules.{rules}
 use Rattle.ibft_build.proofs.stored.named_given.Statement.{statement}
 use Rattle.ibft_build.proofs.stored.named_given.Tie as tie
 
-returns : tie.Need-returns
+returns : tie.Need-returns-then-byte_at-ne1
 returns c =
-    let at-byte-at = c.before in
-    let at-owner-of = at-byte-at.before in
-    let at-start = at-owner-of.before.before in
-    let owner = at-owner-of.owner_of.ensures in
-    let low = owner-named _ at-start.requires in
-    entry-off _ _ _ owner (sym (given-named _ _ (omega arith)) ∙ ne_eqb _ 1 (λ e. c.if1.true (at-byte-at.byte_at.ensures ∙ e)))
+    let owner = c.owner_of.ensures in
+    let low = owner-named _ c.requires in
+    entry-off _ _ _ owner (sym (given-named _ _ (omega arith)) ∙ ne_eqb _ 1 (λ e. c.if-byte_at-ne1.true (c.byte_at.ensures ∙ e)))
 
-returns-2 : tie.Need-returns-2
+returns-2 : tie.Need-returns
 returns-2 c =
-    let at-if1 = c.before in
-    let at-byte-at = at-if1.before in
-    let at-owner-of = at-byte-at.before in
-    let at-start = at-owner-of.before.before in
-    let owner = at-owner-of.owner_of.ensures in
-    let low = owner-named _ at-start.requires in
+    let owner = c.owner_of.ensures in
+    let low = owner-named _ c.requires in
     entry-marked _ _ _ owner (sym (given-named _ _ (omega arith))
-    ∙ eq-eqb _ 1 (sym at-byte-at.byte_at.ensures ∙ at-if1.if1.false)) _ _ (mark-named _ _ at-start.requires)
-    c.byte-at2.ensures
+    ∙ eq-eqb _ 1 (sym c.byte_at.ensures ∙ c.if-byte_at-ne1.false)) _ _ (mark-named _ _ c.requires)
+    c.byte_at-2.ensures
 
-pub named-given-spec : {M : Type 1} → statement M
-named-given-spec = tie.close (tie.spec (search rules) (search rules) (search rules) (search rules) (search rules) returns
-    (search rules) (search rules) (search rules) returns-2)
+pub named_given_spec : {M : Type 1} → statement M
+named_given_spec = tie.close (tie.spec (search rules) (search rules) (search rules) (search rules) (search rules)
+    returns (search rules) (search rules) (search rules) returns-2)

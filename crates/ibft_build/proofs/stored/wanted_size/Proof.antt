@@ -6,19 +6,16 @@ use borrow.Author.Rules.{rules}
 use Rattle.ibft_build.proofs.stored.wanted_size.Statement.{statement}
 use Rattle.ibft_build.proofs.stored.wanted_size.Tie as tie
 
-add-result : tie.Need-overflow-add-result
+add-result : tie.Need-overflow_add-result
 add-result c =
-    let at-if1 = c.before in
-    let at-entry-given = at-if1.before in
-    let at-start = at-entry-given.before.before in
-    let p = at-start.requires in
-    omega (arith, c.entry_length.ensures, p.1 _ p.0 (sym at-entry-given.entry-given.ensures ∙ at-if1.if1.true))
+    let p = c.requires in
+    omega (arith, c.entry_length.ensures, p.1 _ p.0 (sym c.entry_given.ensures ∙ c.if-entry_given.true))
 
-returns : tie.Need-returns
-returns c = wanted-on _ _ (sym c.before.before.entry-given.ensures ∙ c.before.if1.true) _ c.entry_length.ensures
+returns : tie.Need-returns-then-entry_given
+returns c = wanted-on _ _ (sym c.entry_given.ensures ∙ c.if-entry_given.true) _ c.entry_length.ensures
 
-returns-2 : tie.Need-returns-2
-returns-2 c = wanted-off _ _ (sym c.before.entry-given.ensures ∙ c.if1.false)
+returns-2 : tie.Need-returns
+returns-2 c = wanted-off _ _ (sym c.entry_given.ensures ∙ c.if-entry_given.false)
 
-pub wanted-size-spec : {M : Type 1} → statement M
-wanted-size-spec = tie.close (tie.spec (search rules) (search rules) add-result returns returns-2)
+pub wanted_size_spec : {M : Type 1} → statement M
+wanted_size_spec = tie.close (tie.spec (search rules) (search rules) add-result returns returns-2)

@@ -6,15 +6,10 @@ use Rattle.ibft_build.proofs.write_header.put_header.Tie as tie
 
 returns : tie.Need-returns
 returns c =
-    let at-put-zeros = c.before.before in
-    let at-put-bytes2 = at-put-zeros.before.before.before.before in
-    let at_part = at-put-bytes2.before.before in
-    let at-put-bytes = at_part.before.before.before in
-    let at-header-start = at-put-bytes.before.before.before in
-    let at-start = at-header-start.before.before.before in
-    let p = at-start.requires in
-    header_is _ _ _ _ _ _ _ _ p.0 p.1 at-header-start.header-start.ensures at-put-bytes.put-bytes.ensures
-    at_part.part.ensures.bytes at-put-bytes2.put-bytes2.ensures at-put-zeros.put-zeros.ensures
+    let p = c.requires in
+    header_is _ _ _ _ _ _ _ _ p.0 p.1 c.header_start-start.ensures c.put_bytes.ensures
+    c.part-oem.ensures.bytes c.put_bytes-2.ensures c.put_zeros.ensures
 
-pub put-header-spec : {M : Type 1} → statement M
-put-header-spec = tie.close (tie.spec (search rules) (search rules) (search rules) (search rules) (search rules) (search rules) (search rules) returns)
+pub put_header_spec : {M : Type 1} → statement M
+put_header_spec = tie.close (tie.spec (search rules) (search rules) (search rules) (search rules) (search rules)
+    (search rules) (search rules) returns)

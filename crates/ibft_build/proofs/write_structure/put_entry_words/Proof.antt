@@ -6,11 +6,8 @@ use Rattle.ibft_build.proofs.write_structure.put_entry_words.Tie as tie
 
 returns : tie.Need-returns
 returns c =
-    let at-put-u162 = c.before.before in
-    let at-put-u16 = at-put-u162.before.before.before.before.before in
-    let at-length-word = at-put-u16.before in
-    entry-words _ _ _ _ _ _ _ _ at-length-word.length-word.ensures at-put-u16.put-u16.ensures at-put-u162.put-u162.ensures
+    entry-words _ _ _ _ _ _ _ _ c.length_word.ensures c.put_u16.ensures c.put_u16-2.ensures
 
-pub put-entry-words-spec : {M : Type 1} → statement M
-put-entry-words-spec = tie.close (tie.spec (search rules) (search rules) (search rules) (search rules) (search rules)
+pub put_entry_words_spec : {M : Type 1} → statement M
+put_entry_words_spec = tie.close (tie.spec (search rules) (search rules) (search rules) (search rules) (search rules)
     (search rules) (search rules) (search rules) (search rules) returns)

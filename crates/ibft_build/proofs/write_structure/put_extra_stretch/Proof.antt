@@ -6,21 +6,18 @@ use borrow.Author.Rules.{rules}
 use Rattle.ibft_build.proofs.write_structure.put_extra_stretch.Statement.{statement}
 use Rattle.ibft_build.proofs.write_structure.put_extra_stretch.Tie as tie
 
-put-stretch-requires : tie.Need-put-stretch-requires
+put-stretch-requires : tie.Need-put_stretch-requires
 put-stretch-requires c κs =
-    let at-start = c.before.before.before.before.before.before.before.before in
-    let p = at-start.requires in
+    let p = c.requires in
     (p.0, p.1, p.2, p.3, p.4, p.6)
 
-returns : tie.Need-returns
-returns c = c.before.before.put-stretch.ensures
+returns : tie.Need-returns-then-extras_given-ne0
+returns c = c.put_stretch.ensures
 
-returns-2 : tie.Need-returns-2
+returns-2 : tie.Need-returns-else-extras_given-ne0
 returns-2 c =
-    let at-extras-given = c.before in
-    let at-start = at-extras-given.before.before.before.before.before.before in
-    let none = sym at-extras-given.extras-given.ensures.0 ∙ c.if1.false in
-    stretch-off _ _ _ _ _ _ refl (extras-none _ none _ at-start.requires.5) _
+    let none = sym c.extras_given.ensures.0 ∙ c.if-extras_given-ne0.false in
+    stretch-off _ _ _ _ _ _ refl (extras-none _ none _ c.requires.5) _
 
-pub put-extra-stretch-spec : {M : Type 1} → statement M
-put-extra-stretch-spec = tie.close (tie.spec (search rules) put-stretch-requires (search rules) returns returns-2)
+pub put_extra_stretch_spec : {M : Type 1} → statement M
+put_extra_stretch_spec = tie.close (tie.spec (search rules) put-stretch-requires (search rules) returns returns-2)

@@ -11,118 +11,95 @@ use borrow.Author.Rules.{rules}
 use Rattle.ibft_build.proofs.write_structure.put_structures.Statement.{statement}
 use Rattle.ibft_build.proofs.write_structure.put_structures.Tie as tie
 
-abbrev invariant-loop : tie.invariant-loop
+abbrev invariant-loop : tie.invariant-loop-j
 invariant-loop room₀ range ends wanted offsets j₀ room j = Passed range ends wanted offsets 0 3 room₀ j₀ room j
 
-abbrev decreases-loop : tie.decreases-loop
+abbrev decreases-loop : tie.decreases-loop-j
 decreases-loop room₀ range ends wanted offsets j₀ room j = 3 - j
 
-abbrev invariant-loop2 : tie.invariant-loop2
+abbrev invariant-loop2 : tie.invariant-loop-j-2
 invariant-loop2 room₀ range ends wanted offsets j₀ room j = Passed range ends wanted offsets 3 9 room₀ j₀ room j
 
-abbrev decreases-loop2 : tie.decreases-loop2
+abbrev decreases-loop2 : tie.decreases-loop-j-2
 decreases-loop2 room₀ range ends wanted offsets j₀ room j = 9 - j
 
-abbrev invariant-loop3 : tie.invariant-loop3
+abbrev invariant-loop3 : tie.invariant-loop-j-3
 invariant-loop3 room₀ range ends wanted offsets j₀ room j = Passed range ends wanted offsets 9 11 room₀ j₀ room j
 
-abbrev decreases-loop3 : tie.decreases-loop3
+abbrev decreases-loop3 : tie.decreases-loop-j-3
 decreases-loop3 room₀ range ends wanted offsets j₀ room j = 11 - j
 
-abbrev invariant-loop4 : tie.invariant-loop4
+abbrev invariant-loop4 : tie.invariant-loop-j-4
 invariant-loop4 room₀ range ends wanted offsets j₀ room j = Passed range ends wanted offsets 11 slot_count room₀ j₀ room j
 
-abbrev decreases-loop4 : tie.decreases-loop4
+abbrev decreases-loop4 : tie.decreases-loop-j-4
 decreases-loop4 room₀ range ends wanted offsets j₀ room j = slot_count - j
 
-loop-holds : tie.Need-loop-init invariant-loop decreases-loop invariant-loop2 decreases-loop2 invariant-loop3 decreases-loop3 invariant-loop4 decreases-loop4
+loop-holds : tie.Need-loop-j-init invariant-loop decreases-loop invariant-loop2 decreases-loop2 invariant-loop3 decreases-loop3 invariant-loop4 decreases-loop4
 loop-holds c = (omega arith, omega arith, refl, λ t e. e)
 
-put-stretch-requires : tie.Need-put-stretch-requires invariant-loop decreases-loop invariant-loop2 decreases-loop2 invariant-loop3 decreases-loop3 invariant-loop4 decreases-loop4
+put-stretch-requires : tie.Need-put_stretch-requires invariant-loop decreases-loop invariant-loop2 decreases-loop2 invariant-loop3 decreases-loop3 invariant-loop4 decreases-loop4
 put-stretch-requires c κs =
-    let at-loop = c.before.before in
-    let at-start = at-loop.before.before.before.before.before.before in
-    let p = at-start.requires in
-    let l = at-loop.loop in
-    (p.0, p.1, p.2, p.3, omega arith, omega (arith, l.invariant.2, p.4, end-grows at-start.args.range.now (l.j + 1) slot_count (omega arith)))
+    let p = c.requires in
+    let l = c.loop-j in
+    (p.0, p.1, p.2, p.3, omega arith, omega (arith, l.invariant.2, p.4, end-grows c.args.range.now (l.j + 1) slot_count (omega arith)))
 
-loop-again : tie.Need-loop-preserved invariant-loop decreases-loop invariant-loop2 decreases-loop2 invariant-loop3 decreases-loop3 invariant-loop4 decreases-loop4
+loop-again : tie.Need-loop-j-preserved invariant-loop decreases-loop invariant-loop2 decreases-loop2 invariant-loop3 decreases-loop3 invariant-loop4 decreases-loop4
 loop-again c =
-    let at-put-stretch = c.before.before in
-    let at-loop = at-put-stretch.before.before.before in
-    let at-start = at-loop.before.before.before.before.before.before in
-    let p = at-start.requires in
-    let l = at-loop.loop in
-    passed-next _ _ _ _ p.0 p.1 _ _ _ _ _ _ l.j (omega arith) (omega arith) l.invariant at-put-stretch.put-stretch.ensures
+    let p = c.requires in
+    let l = c.loop-j in
+    passed-next _ _ _ _ p.0 p.1 _ _ _ _ _ _ l.j (omega arith) (omega arith) l.invariant c.put_stretch.ensures
 
-loop2-holds : tie.Need-loop2-init invariant-loop decreases-loop invariant-loop2 decreases-loop2 invariant-loop3 decreases-loop3 invariant-loop4 decreases-loop4
+loop2-holds : tie.Need-loop-j-2-init invariant-loop decreases-loop invariant-loop2 decreases-loop2 invariant-loop3 decreases-loop3 invariant-loop4 decreases-loop4
 loop2-holds c = (omega arith, omega arith, refl, λ t e. e)
 
-put-extra-stretch-requires : tie.Need-put-extra-stretch-requires invariant-loop decreases-loop invariant-loop2 decreases-loop2 invariant-loop3 decreases-loop3 invariant-loop4 decreases-loop4
+put-extra-stretch-requires : tie.Need-put_extra_stretch-requires invariant-loop decreases-loop invariant-loop2 decreases-loop2 invariant-loop3 decreases-loop3 invariant-loop4 decreases-loop4
 put-extra-stretch-requires c κs =
-    let at-loop2 = c.before.before in
-    let at-loop = at-loop2.before.before in
-    let at-start = at-loop.before.before.before.before.before.before in
-    let p = at-start.requires in
-    let l = at-loop2.loop2 in (
+    let p = c.requires in
+    let l = c.loop-j-2 in (
       p.0,
       p.1,
       p.2,
       p.3,
       omega arith,
       extra-turn l.j l.invariant.0 (omega arith) (λ m. omega arith),
-      omega (arith, l.invariant.2, at-loop.loop.invariant.2, p.4, end-grows at-start.args.range.now (l.j + 1) slot_count (omega arith)),
+      omega (arith, l.invariant.2, c.loop-j.invariant.2, p.4, end-grows c.args.range.now (l.j + 1) slot_count (omega arith)),
     )
 
-loop2-again : tie.Need-loop2-preserved invariant-loop decreases-loop invariant-loop2 decreases-loop2 invariant-loop3 decreases-loop3 invariant-loop4 decreases-loop4
+loop2-again : tie.Need-loop-j-2-preserved invariant-loop decreases-loop invariant-loop2 decreases-loop2 invariant-loop3 decreases-loop3 invariant-loop4 decreases-loop4
 loop2-again c =
-    let at-put-extra-stretch = c.before.before in
-    let at-loop2 = at-put-extra-stretch.before.before.before in
-    let at-start = at-loop2.before.before.before.before.before.before.before.before in
-    let p = at-start.requires in
-    let l = at-loop2.loop2 in
-    passed-next _ _ _ _ p.0 p.1 _ _ _ _ _ _ l.j (omega arith) (omega arith) l.invariant at-put-extra-stretch.put-extra-stretch.ensures
+    let p = c.requires in
+    let l = c.loop-j-2 in
+    passed-next _ _ _ _ p.0 p.1 _ _ _ _ _ _ l.j (omega arith) (omega arith) l.invariant c.put_extra_stretch.ensures
 
-loop3-holds : tie.Need-loop3-init invariant-loop decreases-loop invariant-loop2 decreases-loop2 invariant-loop3 decreases-loop3 invariant-loop4 decreases-loop4
+loop3-holds : tie.Need-loop-j-3-init invariant-loop decreases-loop invariant-loop2 decreases-loop2 invariant-loop3 decreases-loop3 invariant-loop4 decreases-loop4
 loop3-holds c = (omega arith, omega arith, refl, λ t e. e)
 
-put-stretch-requires-2 : tie.Need-put-stretch-requires-2 invariant-loop decreases-loop invariant-loop2 decreases-loop2 invariant-loop3 decreases-loop3 invariant-loop4 decreases-loop4
+put-stretch-requires-2 : tie.Need-put_stretch-requires-in-loop-j-3 invariant-loop decreases-loop invariant-loop2 decreases-loop2 invariant-loop3 decreases-loop3 invariant-loop4 decreases-loop4
 put-stretch-requires-2 c κs =
-    let at-loop3 = c.before.before in
-    let at-loop2 = at-loop3.before.before in
-    let at-loop = at-loop2.before.before in
-    let at-start = at-loop.before.before.before.before.before.before in
-    let p = at-start.requires in
-    let l = at-loop3.loop3 in (
+    let p = c.requires in
+    let l = c.loop-j-3 in (
       p.0,
       p.1,
       p.2,
       p.3,
       omega arith,
-      omega (arith, l.invariant.2, at-loop2.loop2.invariant.2, at-loop.loop.invariant.2, p.4, end-grows at-start.args.range.now (l.j + 1) slot_count (omega arith)),
+      omega (arith, l.invariant.2, c.loop-j-2.invariant.2, c.loop-j.invariant.2, p.4, end-grows c.args.range.now (l.j + 1) slot_count (omega arith)),
     )
 
-loop3-again : tie.Need-loop3-preserved invariant-loop decreases-loop invariant-loop2 decreases-loop2 invariant-loop3 decreases-loop3 invariant-loop4 decreases-loop4
+loop3-again : tie.Need-loop-j-3-preserved invariant-loop decreases-loop invariant-loop2 decreases-loop2 invariant-loop3 decreases-loop3 invariant-loop4 decreases-loop4
 loop3-again c =
-    let at-put-stretch2 = c.before.before in
-    let at-loop3 = at-put-stretch2.before.before.before in
-    let at-start = at-loop3.before.before.before.before.before.before.before.before.before.before in
-    let p = at-start.requires in
-    let l = at-loop3.loop3 in
-    passed-next _ _ _ _ p.0 p.1 _ _ _ _ _ _ l.j (omega arith) (omega arith) l.invariant at-put-stretch2.put-stretch2.ensures
+    let p = c.requires in
+    let l = c.loop-j-3 in
+    passed-next _ _ _ _ p.0 p.1 _ _ _ _ _ _ l.j (omega arith) (omega arith) l.invariant c.put_stretch-in-loop-j-3.ensures
 
-loop4-holds : tie.Need-loop4-init invariant-loop decreases-loop invariant-loop2 decreases-loop2 invariant-loop3 decreases-loop3 invariant-loop4 decreases-loop4
+loop4-holds : tie.Need-loop-j-4-init invariant-loop decreases-loop invariant-loop2 decreases-loop2 invariant-loop3 decreases-loop3 invariant-loop4 decreases-loop4
 loop4-holds c = (omega arith, omega arith, refl, λ t e. e)
 
-put-extra-stretch-requires-2 : tie.Need-put-extra-stretch-requires-2 invariant-loop decreases-loop invariant-loop2 decreases-loop2 invariant-loop3 decreases-loop3 invariant-loop4 decreases-loop4
+put-extra-stretch-requires-2 : tie.Need-put_extra_stretch-requires-in-loop-j-4 invariant-loop decreases-loop invariant-loop2 decreases-loop2 invariant-loop3 decreases-loop3 invariant-loop4 decreases-loop4
 put-extra-stretch-requires-2 c κs =
-    let at-loop4 = c.before.before in
-    let at-loop3 = at-loop4.before.before in
-    let at-loop2 = at-loop3.before.before in
-    let at-loop = at-loop2.before.before in
-    let at-start = at-loop.before.before.before.before.before.before in
-    let p = at-start.requires in
-    let l = at-loop4.loop4 in (
+    let p = c.requires in
+    let l = c.loop-j-4 in (
       p.0,
       p.1,
       p.2,
@@ -132,47 +109,33 @@ put-extra-stretch-requires-2 c κs =
       omega (
         arith,
         l.invariant.2,
-        at-loop3.loop3.invariant.2,
-        at-loop2.loop2.invariant.2,
-        at-loop.loop.invariant.2,
+        c.loop-j-3.invariant.2,
+        c.loop-j-2.invariant.2,
+        c.loop-j.invariant.2,
         p.4,
-        end-grows at-start.args.range.now (l.j + 1) slot_count (omega arith),
+        end-grows c.args.range.now (l.j + 1) slot_count (omega arith),
       ),
     )
 
-loop4-again : tie.Need-loop4-preserved invariant-loop decreases-loop invariant-loop2 decreases-loop2 invariant-loop3 decreases-loop3 invariant-loop4 decreases-loop4
+loop4-again : tie.Need-loop-j-4-preserved invariant-loop decreases-loop invariant-loop2 decreases-loop2 invariant-loop3 decreases-loop3 invariant-loop4 decreases-loop4
 loop4-again c =
-    let at-put-extra-stretch2 = c.before.before in
-    let at-loop4 = at-put-extra-stretch2.before.before.before in
-    let at-start = at-loop4.before.before.before.before.before.before.before.before.before.before.before.before in
-    let p = at-start.requires in
-    let l = at-loop4.loop4 in
-    passed-next _ _ _ _ p.0 p.1 _ _ _ _ _ _ l.j (omega arith) (omega arith) l.invariant at-put-extra-stretch2.put-extra-stretch2.ensures
+    let p = c.requires in
+    let l = c.loop-j-4 in
+    passed-next _ _ _ _ p.0 p.1 _ _ _ _ _ _ l.j (omega arith) (omega arith) l.invariant c.put_extra_stretch-in-loop-j-4.ensures
 
-same_length : tie.Need-same-length invariant-loop decreases-loop invariant-loop2 decreases-loop2 invariant-loop3 decreases-loop3 invariant-loop4 decreases-loop4
+same_length : tie.Need-shape_of-room invariant-loop decreases-loop invariant-loop2 decreases-loop2 invariant-loop3 decreases-loop3 invariant-loop4 decreases-loop4
 same_length c =
-    let at-loop4 = c.before in
-    let at-loop3 = at-loop4.before.before in
-    let at-loop2 = at-loop3.before.before in
-    let at-loop = at-loop2.before.before in
-    at-loop4.loop4.invariant.2 ∙ at-loop3.loop3.invariant.2 ∙ at-loop2.loop2.invariant.2 ∙ at-loop.loop.invariant.2
+    c.loop-j-4.invariant.2 ∙ c.loop-j-3.invariant.2 ∙ c.loop-j-2.invariant.2 ∙ c.loop-j.invariant.2
 
 returns : tie.Need-returns invariant-loop decreases-loop invariant-loop2 decreases-loop2 invariant-loop3 decreases-loop3 invariant-loop4 decreases-loop4
 returns c =
-    let at-loop4 = c.before in
-    let at-loop3 = at-loop4.before.before in
-    let at-loop2 = at-loop3.before.before in
-    let at-loop = at-loop2.before.before in
-    let l = at-loop4.loop4 in
+    let l = c.loop-j-4 in
     gather-done _ _ _ _ l.j slot_count _
-    (l.invariant.3 _ (at-loop3.loop3.invariant.3 _ (at-loop2.loop2.invariant.3 _ (at-loop.loop.invariant.3 _ (gather_none _ _ _ _))))) (omega arith)
+    (l.invariant.3 _ (c.loop-j-3.invariant.3 _ (c.loop-j-2.invariant.3 _ (c.loop-j.invariant.3 _ (gather_none _ _ _ _))))) (omega arith)
 
-pub put-structures-spec : {M : Type 1} → statement M
-put-structures-spec =
-    tie.close
-    (tie.spec invariant-loop decreases-loop invariant-loop2 decreases-loop2 invariant-loop3 decreases-loop3 invariant-loop4 decreases-loop4
-    loop-holds put-stretch-requires (search rules) (search rules) loop-again
-    loop2-holds put-extra-stretch-requires (search rules) (search rules) loop2-again
-    loop3-holds put-stretch-requires-2 (search rules) (search rules) loop3-again
-    loop4-holds put-extra-stretch-requires-2 (search rules) (search rules) loop4-again
-    same_length returns)
+pub put_structures_spec : {M : Type 1} → statement M
+put_structures_spec = tie.close (tie.spec invariant-loop decreases-loop invariant-loop2 decreases-loop2
+    invariant-loop3 decreases-loop3 invariant-loop4 decreases-loop4 loop-holds put-stretch-requires (search rules)
+    (search rules) loop-again loop2-holds put-extra-stretch-requires (search rules) (search rules) loop2-again
+    loop3-holds put-stretch-requires-2 (search rules) (search rules) loop3-again loop4-holds
+    put-extra-stretch-requires-2 (search rules) (search rules) loop4-again same_length returns)

@@ -5,7 +5,7 @@ use Rattle.ibft_build.proofs.write_structure.start_bytes.Statement.{statement}
 use Rattle.ibft_build.proofs.write_structure.start_bytes.Tie as tie
 
 returns : tie.Need-returns
-returns c = c.start.ensures ∙ rw (c.before.kind-of.ensures, c.before.before.index-given.ensures)
+returns c = c.start.ensures ∙ rw (c.kind_of.ensures, c.index_given-index.ensures)
 
-pub start-bytes-spec : {M : Type 1} → statement M
-start-bytes-spec = tie.close (tie.spec (search rules) (search rules) (search rules) returns)
+pub start_bytes_spec : {M : Type 1} → statement M
+start_bytes_spec = tie.close (tie.spec (search rules) (search rules) (search rules) returns)

@@ -10,8 +10,8 @@ use Rattle.ibft_build.proofs.write_structure.strings_at.Tie as tie
 
 returns : tie.Need-returns
 returns c =
-    ap (λ (s : StringShape). s.at) c.string-of.ensures ∙ ap (λ (n : ℕ). (string_of n).at) c.before.first_entry.ensures
-    ∙ strings-first c.before.before.args.k c.before.before.requires
+    ap (λ (s : StringShape). s.at) c.string_of.ensures ∙ ap (λ (n : ℕ). (string_of n).at) c.first_entry.ensures
+    ∙ strings-first c.args.k c.requires
 
-pub strings-at-spec : {M : Type 1} → statement M
-strings-at-spec = tie.close (tie.spec (search rules) (search rules) returns)
+pub strings_at_spec : {M : Type 1} → statement M
+strings_at_spec = tie.close (tie.spec (search rules) (search rules) returns)
