@@ -10,32 +10,27 @@ use borrow.Author.Rules.{rules}
 use Rattle.record_text.proofs.fields.before_digit.Statement.{statement}
 use Rattle.record_text.proofs.fields.before_digit.Tie as tie
 
-abbrev invariant-loop : tie.invariant-loop
+abbrev invariant-loop : tie.invariant-loop-i
 invariant-loop s i₀ i = (i ≤ length s) × (i + before is_digit (drop i s) ≡ before is_digit s)
 
-abbrev decreases-loop : tie.decreases-loop
+abbrev decreases-loop : tie.decreases-loop-i
 decreases-loop s i₀ i = length s - i
 
-returns : tie.Need-returns invariant-loop decreases-loop
+returns : tie.Need-returns-then-is_digit invariant-loop decreases-loop
 returns c =
-    let at-is-digit = c.before in
-    let at-loop = at-is-digit.before.before.before in
-    let at-start = at-loop.before.before in
-    let a = at-start.args in
-    omega (arith, before-stop is_digit a.s.now at-loop.loop.i (omega arith) (sym at-is-digit.is_digit.ensures ∙ c.if1.true))
+    let a = c.args in
+    omega (arith, before-stop is_digit a.s.now c.loop-i.i (omega arith) (sym c.is_digit.ensures ∙ c.if-is_digit.true))
 
-loop-again : tie.Need-loop-preserved invariant-loop decreases-loop
+loop-again : tie.Need-loop-i-preserved invariant-loop decreases-loop
 loop-again c =
-    let at-is-digit = c.before in
-    let at-loop = at-is-digit.before.before.before in
-    let at-start = at-loop.before.before in
-    let a = at-start.args in
-    omega (arith, before-next is_digit a.s.now at-loop.loop.i (omega arith) (sym at-is-digit.is_digit.ensures ∙ c.if1.false))
+    let a = c.args in
+    omega (arith, before-next is_digit a.s.now c.loop-i.i (omega arith) (sym c.is_digit.ensures ∙ c.if-is_digit.false))
 
-returns-2 : tie.Need-returns-2 invariant-loop decreases-loop
+returns-2 : tie.Need-returns invariant-loop decreases-loop
 returns-2 c =
-    let a = c.before.before.before.args in
-    omega (arith, before-end is_digit a.s.now c.before.loop.i (omega arith))
+    let a = c.args in
+    omega (arith, before-end is_digit a.s.now c.loop-i.i (omega arith))
 
-pub before-digit-spec : {M : Type 1} → statement M
-before-digit-spec = tie.close (tie.spec invariant-loop decreases-loop (search rules) (search rules) (search rules) returns (search rules) (search rules) loop-again returns-2)
+pub before_digit_spec : {M : Type 1} → statement M
+before_digit_spec = tie.close (tie.spec invariant-loop decreases-loop (search rules) (search rules) (search rules)
+    returns (search rules) (search rules) loop-again returns-2)

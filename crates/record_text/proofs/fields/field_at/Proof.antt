@@ -6,7 +6,7 @@ use Rattle.record_text.proofs.fields.field_at.Tie as tie
 
 returns : tie.Need-returns
 unfolding field_of
-returns c = rw (c.field-shape.ensures, c.before.notation-of.ensures)
+returns c = rw (c.field_shape-place.ensures, c.notation_of-notation.ensures)
 
-pub field-at-spec : {M : Type 1} → statement M
-field-at-spec = tie.close (tie.spec (search rules) (search rules) returns)
+pub field_at_spec : {M : Type 1} → statement M
+field_at_spec = tie.close (tie.spec (search rules) (search rules) returns)

@@ -6,18 +6,13 @@ use Rattle.record_text.proofs.FieldsLaws.{row, notation-past}
 use Rattle.record_text.proofs.fields.initiator_notation.Statement.{statement}
 use Rattle.record_text.proofs.fields.initiator_notation.Tie as tie
 
-rest : tie.Need-returns-6
+rest : tie.Need-returns-in_default
 unfolding notation_in
-rest c = last_arm (notation_in initiator) 5 _ c.match.rest (λ h. notation-past initiator _ h)
+rest c = last_arm (notation_in initiator) 5 _ c.in_default.in_default-own.rest (λ h. notation-past initiator _ h)
 
-pub initiator-notation-spec : {M : Type 1} → statement M
+pub initiator_notation_spec : {M : Type 1} → statement M
 unfolding notation_in
-initiator-notation-spec =
-    tie.close
-    (tie.spec
-    (λ c. row (notation_in initiator) 1 _ _ refl c.match.keys1)
-    (λ c. row (notation_in initiator) 2 _ _ refl c.match.keys2)
-    (λ c. row (notation_in initiator) 3 _ _ refl c.match.keys3)
-    (λ c. row (notation_in initiator) 4 _ _ refl c.match.keys4)
-    (λ c. row (notation_in initiator) 5 _ _ refl c.match.keys5)
+initiator_notation_spec = tie.close (tie.spec (λ c. row (notation_in initiator) 1 _ _ refl c.in-1.is)
+    (λ c. row (notation_in initiator) 2 _ _ refl c.in-2.is) (λ c. row (notation_in initiator) 3 _ _ refl c.in-3.is)
+    (λ c. row (notation_in initiator) 4 _ _ refl c.in-4.is) (λ c. row (notation_in initiator) 5 _ _ refl c.in-5.is)
     rest)

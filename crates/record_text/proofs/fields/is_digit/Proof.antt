@@ -4,6 +4,6 @@ use borrow.Author.Rules.{rules}
 use Rattle.record_text.proofs.fields.is_digit.Statement.{statement}
 use Rattle.record_text.proofs.fields.is_digit.Tie as tie
 
-pub is-digit-spec : {M : Type 1} → statement M
+pub is_digit_spec : {M : Type 1} → statement M
 unfolding is_digit
-is-digit-spec = tie.close (tie.spec (search rules))
+is_digit_spec = tie.close (tie.spec (search rules))

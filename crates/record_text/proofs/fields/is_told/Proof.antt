@@ -14,12 +14,9 @@ use Rattle.record_text.proofs.fields.is_told.Tie as tie
 returns : tie.Need-returns
 unfolding part
 returns c =
-    let at_part = c.before in
-    let at-put-decimal = at_part.before.before.before in
-    let at-start = at-put-decimal.before.before.before in
-    let a = at-start.args in
-    let whole = puts-front at-put-decimal.put-decimal.ensures (omega (arith, digits-short a.n at-start.requires)) in
-    c.same.ensures ∙ ap (λ (l : List ℕ). same l a.text.now) (at_part.part.ensures.bytes ∙ whole)
+    let a = c.args in
+    let whole = puts-front c.put_decimal-end.ensures (omega (arith, digits-short a.n c.requires)) in
+    c.same.ensures ∙ ap (λ (l : List ℕ). same l a.text.now) (c.part.ensures.bytes ∙ whole)
 
-pub is-told-spec : {M : Type 1} → statement M
-is-told-spec = tie.close (tie.spec (search rules) (search rules) (search rules) (search rules) (search rules) returns)
+pub is_told_spec : {M : Type 1} → statement M
+is_told_spec = tie.close (tie.spec (search rules) (search rules) (search rules) (search rules) (search rules) returns)

@@ -9,10 +9,10 @@ use Rattle.record_text.proofs.FieldsLaws.{row, place-past}
 use Rattle.record_text.proofs.fields.oem_place.Statement.{statement}
 use Rattle.record_text.proofs.fields.oem_place.Tie as tie
 
-rest : tie.Need-returns-2
+rest : tie.Need-returns-in_default
 unfolding place_in
-rest c = last_arm (λ (n : ℕ). field_shape (place_in oem n)) 1 _ c.match.rest (λ h. ap (λ (x : Field). field_shape x) (place-past oem _ h))
+rest c = last_arm (λ (n : ℕ). field_shape (place_in oem n)) 1 _ c.in_default.in_default-own.rest (λ h. ap (λ (x : Field). field_shape x) (place-past oem _ h))
 
-pub oem-place-spec : {M : Type 1} → statement M
+pub oem_place_spec : {M : Type 1} → statement M
 unfolding place_in
-oem-place-spec = tie.close (tie.spec (λ c. row (λ (n : ℕ). field_shape (place_in oem n)) 1 _ _ refl c.match.keys1) rest)
+oem_place_spec = tie.close (tie.spec (λ c. row (λ (n : ℕ). field_shape (place_in oem n)) 1 _ _ refl c.in-1.is) rest)

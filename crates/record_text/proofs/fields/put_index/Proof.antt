@@ -5,17 +5,13 @@ use borrow.Author.Rules.{rules}
 use Rattle.record_text.proofs.fields.put_index.Statement.{statement}
 use Rattle.record_text.proofs.fields.put_index.Tie as tie
 
-returns : tie.Need-returns
+returns : tie.Need-returns-then-kind-lt-FIRST_INDEXED
 returns c =
-    let at-put-text = c.before.before in
-    let at-if1 = at-put-text.before.before.before in
-    puts-same at-put-text.put-text.ensures (index-put-none _ _ at-if1.if1.true)
+    puts-same c.put_text.ensures (index-put-none _ _ c.if-kind-lt-FIRST_INDEXED.true)
 
-returns-2 : tie.Need-returns-2
+returns-2 : tie.Need-returns
 returns-2 c =
-    let at-put-decimal = c.before.before in
-    let at-if1 = at-put-decimal.before.before in
-    puts-same at-put-decimal.put-decimal.ensures (index-put _ _ at-if1.if1.false)
+    puts-same c.put_decimal.ensures (index-put _ _ c.if-kind-lt-FIRST_INDEXED.false)
 
-pub put-index-spec : {M : Type 1} → statement M
-put-index-spec = tie.close (tie.spec (search rules) (search rules) (search rules) returns (search rules) (search rules) returns-2)
+pub put_index_spec : {M : Type 1} → statement M
+put_index_spec = tie.close (tie.spec (search rules) (search rules) returns (search rules) (search rules) returns-2)

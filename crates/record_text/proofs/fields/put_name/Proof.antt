@@ -13,15 +13,10 @@ use Rattle.record_text.proofs.fields.put_name.Tie as tie
 returns : tie.Need-returns
 unfolding tabulate name_of
 returns c =
-    let at-put-own-name = c.before.before in
-    let at-put-index = at-put-own-name.before.before.before.before.before in
-    let at-put-text = at-put-index.before.before.before.before in
-    let at-word-at = at-put-text.before in
-    let at-start = at-word-at.before.before.before.before.before in
-    let f = at-start.args.f in
-    puts-same (puts-append at-put-text.put-text.ensures (puts-append at-put-index.put-index.ensures at-put-own-name.put-own-name.ensures))
-    (ap (λ (l : List ℕ). l ++ (index_text f.kind f.index ++ dotted (word_at (group_of f.kind).names f.field))) at-word-at.word_at.ensures)
+    let f = c.args.f in
+    puts-same (puts-append c.put_text-kind.ensures (puts-append c.put_index-index.ensures c.put_own_name.ensures))
+    (ap (λ (l : List ℕ). l ++ (index_text f.kind f.index ++ dotted (word_at (group_of f.kind).names f.field))) c.word_at.ensures)
 
-pub put-name-spec : {M : Type 1} → statement M
-put-name-spec = tie.close (tie.spec (search rules) (search rules) (search rules) (search rules) (search rules)
-    (search rules) (search rules) (search rules) returns)
+pub put_name_spec : {M : Type 1} → statement M
+put_name_spec = tie.close (tie.spec (search rules) (search rules) (search rules) (search rules) (search rules)
+    (search rules) (search rules) returns)

@@ -6,23 +6,15 @@ use Rattle.record_text.proofs.FieldsLaws.{row, notation-past}
 use Rattle.record_text.proofs.fields.target_notation.Statement.{statement}
 use Rattle.record_text.proofs.fields.target_notation.Tie as tie
 
-rest : tie.Need-returns-11
+rest : tie.Need-returns-in_default
 unfolding notation_in
-rest c = last_arm (notation_in target) 10 _ c.match.rest (λ h. notation-past target _ h)
+rest c = last_arm (notation_in target) 10 _ c.in_default.in_default-own.rest (λ h. notation-past target _ h)
 
-pub target-notation-spec : {M : Type 1} → statement M
+pub target_notation_spec : {M : Type 1} → statement M
 unfolding notation_in
-target-notation-spec =
-    tie.close
-    (tie.spec
-    (λ c. row (notation_in target) 1 _ _ refl c.match.keys1)
-    (λ c. row (notation_in target) 2 _ _ refl c.match.keys2)
-    (λ c. row (notation_in target) 3 _ _ refl c.match.keys3)
-    (λ c. row (notation_in target) 4 _ _ refl c.match.keys4)
-    (λ c. row (notation_in target) 5 _ _ refl c.match.keys5)
-    (λ c. row (notation_in target) 6 _ _ refl c.match.keys6)
-    (λ c. row (notation_in target) 7 _ _ refl c.match.keys7)
-    (λ c. row (notation_in target) 8 _ _ refl c.match.keys8)
-    (λ c. row (notation_in target) 9 _ _ refl c.match.keys9)
-    (λ c. row (notation_in target) 10 _ _ refl c.match.keys10)
-    rest)
+target_notation_spec = tie.close (tie.spec (λ c. row (notation_in target) 1 _ _ refl c.in-1.is)
+    (λ c. row (notation_in target) 2 _ _ refl c.in-2.is) (λ c. row (notation_in target) 3 _ _ refl c.in-3.is)
+    (λ c. row (notation_in target) 4 _ _ refl c.in-4.is) (λ c. row (notation_in target) 5 _ _ refl c.in-5.is)
+    (λ c. row (notation_in target) 6 _ _ refl c.in-6.is) (λ c. row (notation_in target) 7 _ _ refl c.in-7.is)
+    (λ c. row (notation_in target) 8 _ _ refl c.in-8.is) (λ c. row (notation_in target) 9 _ _ refl c.in-9.is)
+    (λ c. row (notation_in target) 10 _ _ refl c.in-10.is) rest)

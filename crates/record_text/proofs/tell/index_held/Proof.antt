@@ -4,14 +4,12 @@ use borrow.Author.Rules.{rules}
 use Rattle.record_text.proofs.tell.index_held.Statement.{statement}
 use Rattle.record_text.proofs.tell.index_held.Tie as tie
 
-returns : tie.Need-returns
-returns c = index-low _ _ c.if1.true
+returns : tie.Need-returns-then-g-lt-FIRST_STRUCTURE
+returns c = index-low _ _ c.if-g-lt-FIRST_STRUCTURE.true
 
-returns-2 : tie.Need-returns-2
+returns-2 : tie.Need-returns
 returns-2 c =
-    let at-if1 = c.before in
-    let at-start = at-if1.before.before.before in
-    index-structure _ _ at-if1.if1.false at-start.requires.1 _ at-start.requires.0 _ c.index_in.ensures
+    index-structure _ _ c.if-g-lt-FIRST_STRUCTURE.false c.requires.1 _ c.requires.0 _ c.index_in.ensures
 
-pub index-held-spec : {M : Type 1} → statement M
-index-held-spec = tie.close (tie.spec returns (search rules) (search rules) returns-2)
+pub index_held_spec : {M : Type 1} → statement M
+index_held_spec = tie.close (tie.spec returns (search rules) (search rules) returns-2)

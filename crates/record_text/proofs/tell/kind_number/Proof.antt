@@ -6,11 +6,11 @@ use borrow.Author.Rules.{rules}
 use Rattle.record_text.proofs.tell.kind_number.Statement.{statement}
 use Rattle.record_text.proofs.tell.kind_number.Tie as tie
 
-returns : tie.Need-returns
-returns c = kind-low _ c.if1.true
+returns : tie.Need-returns-then-g-lt-FIRST_STRUCTURE
+returns c = kind-low _ c.if-g-lt-FIRST_STRUCTURE.true
 
-returns-2 : tie.Need-returns-2
-returns-2 c = kind-structure _ c.before.if1.false c.kind-of.result (ap (λ (s : Shape). s.id) c.kind-of.ensures)
+returns-2 : tie.Need-returns
+returns-2 c = kind-structure _ c.if-g-lt-FIRST_STRUCTURE.false c.kind_of.result (ap (λ (s : Shape). s.id) c.kind_of.ensures)
 
-pub kind-number-spec : {M : Type 1} → statement M
-kind-number-spec = tie.close (tie.spec returns (search rules) returns-2)
+pub kind_number_spec : {M : Type 1} → statement M
+kind_number_spec = tie.close (tie.spec returns (search rules) returns-2)

@@ -9,10 +9,7 @@ use Rattle.record_text.proofs.tell.put_hidden.Tie as tie
 returns : tie.Need-returns
 unfolding hidden_line tabulate
 returns c =
-    let at-put-text2 = c.before.before in
-    let at-put-name = at-put-text2.before.before.before.before.before in
-    let at-put-text = at-put-name.before.before.before.before in
-    puts-append at-put-text.put-text.ensures (puts-append at-put-name.put-name.ensures at-put-text2.put-text2.ensures)
+    puts-append c.put_text-mark.ensures (puts-append c.put_name-name.ensures c.put_text.ensures)
 
-pub put-hidden-spec : {M : Type 1} → statement M
-put-hidden-spec = tie.close (tie.spec (search rules) (search rules) (search rules) (search rules) (search rules) (search rules) returns)
+pub put_hidden_spec : {M : Type 1} → statement M
+put_hidden_spec = tie.close (tie.spec (search rules) (search rules) (search rules) (search rules) returns)

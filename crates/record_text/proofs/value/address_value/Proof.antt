@@ -14,26 +14,20 @@ use borrow.Author.Rules.{rules}
 use Rattle.record_text.proofs.value.address_value.Statement.{statement}
 use Rattle.record_text.proofs.value.address_value.Tie as tie
 
-returns : tie.Need-returns
+returns : tie.Need-returns-then-not-address
 returns c =
-    let at-if1 = c.before in
-    let at-read-address = at-if1.before.before in
-    let at-start = at-read-address.before.before in
-    let t = at-start.args.text.now in
-    c.unread.ensures ∙ ap value_read (address-unread (read_address t) _ at-read-address.read-address.ensures (not-true _ at-if1.if1.true))
+    let t = c.args.text.now in
+    c.unread.ensures ∙ ap value_read (address-unread (read_address t) _ c.read_address-address.ensures (not-true _ c.if-not-address.true))
 
-lent : tie.Need-bytes-value-requires
+lent : tie.Need-bytes_value-requires
 lent c κs =
-    let sixteen : length c.before.before.before.before.read-address.result.bytes ≡ 16 = search rules in
+    let sixteen : length c.read_address-address.result.bytes ≡ 16 = search rules in
     omega (arith, sixteen)
 
-returns-2 : tie.Need-returns-2
+returns-2 : tie.Need-returns
 returns-2 c =
-    let at-if1 = c.before.before.before in
-    let at-read-address = at-if1.before.before in
-    let at-start = at-read-address.before.before in
-    let t = at-start.args.text.now in
-    c.bytes-value.ensures ∙ ap value_read (address-read (read_address t) _ at-read-address.read-address.ensures (not-false _ at-if1.if1.false))
+    let t = c.args.text.now in
+    c.bytes_value.ensures ∙ ap value_read (address-read (read_address t) _ c.read_address-address.ensures (not-false _ c.if-not-address.false))
 
-pub address-value-spec : {M : Type 1} → statement M
-address-value-spec = tie.close (tie.spec (search rules) (search rules) returns (λ c. search rules) lent returns-2)
+pub address_value_spec : {M : Type 1} → statement M
+address_value_spec = tie.close (tie.spec (search rules) (search rules) returns (λ c. search rules) lent returns-2)

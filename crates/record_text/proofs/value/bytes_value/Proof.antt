@@ -7,7 +7,7 @@ use Rattle.record_text.proofs.value.bytes_value.Tie as tie
 
 returns : tie.Need-returns
 unfolding zeros
-returns c = bytes_read _ _ (search rules) c.before.put-bytes.ensures
+returns c = bytes_read _ _ (search rules) c.put_bytes.ensures
 
-pub bytes-value-spec : {M : Type 1} → statement M
-bytes-value-spec = tie.close (tie.spec (search rules) (search rules) returns)
+pub bytes_value_spec : {M : Type 1} → statement M
+bytes_value_spec = tie.close (tie.spec (search rules) (search rules) returns)

@@ -10,6 +10,6 @@ returns : tie.Need-returns
 unfolding value_read zeros
 returns c = refl
 
-pub long-value-spec : {M : Type 1} → statement M
-long-value-spec = tie.close (tie.spec (search rules) (search rules) (search rules) (search rules) (search rules)
+pub long_value_spec : {M : Type 1} → statement M
+long_value_spec = tie.close (tie.spec (search rules) (search rules) (search rules) (search rules) (search rules)
     (search rules) (search rules) (search rules) returns)

@@ -14,26 +14,20 @@ use borrow.Author.Rules.{rules}
 use Rattle.record_text.proofs.value.mac_value.Statement.{statement}
 use Rattle.record_text.proofs.value.mac_value.Tie as tie
 
-returns : tie.Need-returns
+returns : tie.Need-returns-then-not-mac
 returns c =
-    let at-if1 = c.before in
-    let at-read-mac = at-if1.before.before in
-    let at-start = at-read-mac.before.before in
-    let t = at-start.args.text.now in
-    c.unread.ensures ∙ ap value_read (mac-unread (read_mac t) _ at-read-mac.read-mac.ensures (not-true _ at-if1.if1.true))
+    let t = c.args.text.now in
+    c.unread.ensures ∙ ap value_read (mac-unread (read_mac t) _ c.read_mac-mac.ensures (not-true _ c.if-not-mac.true))
 
-lent : tie.Need-bytes-value-requires
+lent : tie.Need-bytes_value-requires
 lent c κs =
-    let six : length c.before.before.before.before.read-mac.result.bytes ≡ 6 = search rules in
+    let six : length c.read_mac-mac.result.bytes ≡ 6 = search rules in
     omega (arith, six)
 
-returns-2 : tie.Need-returns-2
+returns-2 : tie.Need-returns
 returns-2 c =
-    let at-if1 = c.before.before.before in
-    let at-read-mac = at-if1.before.before in
-    let at-start = at-read-mac.before.before in
-    let t = at-start.args.text.now in
-    c.bytes-value.ensures ∙ ap value_read (mac-read (read_mac t) _ at-read-mac.read-mac.ensures (not-false _ at-if1.if1.false))
+    let t = c.args.text.now in
+    c.bytes_value.ensures ∙ ap value_read (mac-read (read_mac t) _ c.read_mac-mac.ensures (not-false _ c.if-not-mac.false))
 
-pub mac-value-spec : {M : Type 1} → statement M
-mac-value-spec = tie.close (tie.spec (search rules) (search rules) returns (λ c. search rules) lent returns-2)
+pub mac_value_spec : {M : Type 1} → statement M
+mac_value_spec = tie.close (tie.spec (search rules) (search rules) returns (λ c. search rules) lent returns-2)

@@ -9,13 +9,13 @@ use borrow.Author.Rules.{rules}
 use Rattle.record_text.proofs.value.mode_value.Statement.{statement}
 use Rattle.record_text.proofs.value.mode_value.Tie as tie
 
-returns : tie.Need-returns
+returns : tie.Need-returns-then-n-ge2
 unfolding tabulate pieces_by
-returns c = c.unread.ensures ∙ word-unread modes _ _ c.before.before.word_number.ensures.0 (omega arith)
+returns c = c.unread.ensures ∙ word-unread modes _ _ c.word_number-n.ensures.0 (omega arith)
 
-returns-2 : tie.Need-returns-2
+returns-2 : tie.Need-returns
 unfolding tabulate pieces_by
-returns-2 c = c.byte-value.ensures ∙ word_read modes _ _ c.before.before.word_number.ensures.0 (omega arith)
+returns-2 c = c.byte_value.ensures ∙ word_read modes _ _ c.word_number-n.ensures.0 (omega arith)
 
-pub mode-value-spec : {M : Type 1} → statement M
-mode-value-spec = tie.close (tie.spec (search rules) (search rules) (search rules) returns (search rules) (search rules) returns-2)
+pub mode_value_spec : {M : Type 1} → statement M
+mode_value_spec = tie.close (tie.spec (search rules) (search rules) returns (search rules) (search rules) returns-2)

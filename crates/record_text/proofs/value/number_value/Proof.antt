@@ -7,21 +7,21 @@ use borrow.Author.Rules.{rules}
 use Rattle.record_text.proofs.value.number_value.Statement.{statement}
 use Rattle.record_text.proofs.value.number_value.Tie as tie
 
-returns : tie.Need-returns
+returns : tie.Need-returns-in-1
 returns c =
-    let t = c.before.before.before.args.text.now in
-    c.byte-number.ensures ∙ ap (λ (w : ℕ). value_read (number_bytes w t)) (sym c.before.match.keys1)
+    let t = c.args.text.now in
+    c.byte_number.ensures ∙ ap (λ (w : ℕ). value_read (number_bytes w t)) (sym c.in-1.is)
 
-returns-2 : tie.Need-returns-2
+returns-2 : tie.Need-returns-in-2
 returns-2 c =
-    let t = c.before.before.before.args.text.now in
-    c.short-number.ensures ∙ ap (λ (w : ℕ). value_read (number_bytes w t)) (sym c.before.match.keys2)
+    let t = c.args.text.now in
+    c.short_number.ensures ∙ ap (λ (w : ℕ). value_read (number_bytes w t)) (sym c.in-2.is)
 
-returns-3 : tie.Need-returns-3
+returns-3 : tie.Need-returns-in_default
 returns-3 c =
-    let t = c.before.before.before.args.text.now in
-    let rest = c.before.match.rest in
-    c.long-number.ensures ∙ ap (λ (w : ℕ). value_read (number_bytes w t)) (number-width _ (search rules) rest.0.1 rest.1)
+    let t = c.args.text.now in
+    let rest = c.in_default.in_default-own.rest in
+    c.long_number.ensures ∙ ap (λ (w : ℕ). value_read (number_bytes w t)) (number-width _ (search rules) rest.0.1 rest.1)
 
-pub number-value-spec : {M : Type 1} → statement M
-number-value-spec = tie.close (tie.spec (search rules) (search rules) (search rules) returns returns-2 returns-3)
+pub number_value_spec : {M : Type 1} → statement M
+number_value_spec = tie.close (tie.spec (search rules) (search rules) (search rules) returns returns-2 returns-3)

@@ -6,21 +6,16 @@ use borrow.Author.Rules.{rules}
 use Rattle.record_text.proofs.value.pci_value.Statement.{statement}
 use Rattle.record_text.proofs.value.pci_value.Tie as tie
 
-returns : tie.Need-returns
+returns : tie.Need-returns-in-Word
 returns c =
-    let at-word = c.before.before in
-    let at-read-pci = at-word.before.before in
-    let at-start = at-read-pci.before.before in
-    let t = at-start.args.text.now in
-    c.word_value.ensures ∙ pci-read _ (read_pci t) (sym at-word.word.given.1 ∙ at-read-pci.read-pci.ensures)
+    let t = c.args.text.now in
+    c.word_value.ensures ∙ pci-read _ (read_pci t) (sym c.in-Word.is ∙ c.read_pci.ensures)
 
-returns-2 : tie.Need-returns-2
+returns-2 : tie.Need-returns-in-Bad
 returns-2 c =
-    let at-enum-told = c.before in
-    let at-read-pci = at-enum-told.before.before in
-    let at-start = at-read-pci.before.before in
-    let t = at-start.args.text.now in
-    c.unread.ensures ∙ pci-unread (read_pci t) (sym at-enum-told.enum_told.given.1 ∙ at-read-pci.read-pci.ensures)
+    let t = c.args.text.now in
+    c.unread.ensures ∙ pci-unread (read_pci t) (sym c.in-Bad.is ∙ c.read_pci.ensures)
 
-pub pci-value-spec : {M : Type 1} → statement M
-pci-value-spec = tie.close (tie.spec (search rules) (search rules) (search rules) (search rules) (search rules) returns returns-2)
+pub pci_value_spec : {M : Type 1} → statement M
+pci_value_spec = tie.close (tie.spec (search rules) (search rules) (search rules) (search rules) (search rules)
+    returns returns-2)

@@ -6,11 +6,11 @@ use borrow.Author.Rules.{rules}
 use Rattle.record_text.proofs.value.set_value.Statement.{statement}
 use Rattle.record_text.proofs.value.set_value.Tie as tie
 
-returns : tie.Need-returns
-returns c = c.byte-value.ensures ∙ ap (λ (s : WordSet). value_read (set_byte s)) (sym c.before.before.set.given.1)
+returns : tie.Need-returns-in-Value
+returns c = c.byte_value.ensures ∙ ap (λ (s : WordSet). value_read (set_byte s)) (sym c.in-Value.is)
 
-returns-2 : tie.Need-returns-2
-returns-2 c = c.unread.ensures ∙ ap (λ (s : WordSet). value_read (set_byte s)) (sym c.before.enum_told.given.1)
+returns-2 : tie.Need-returns-in-Bad
+returns-2 c = c.unread.ensures ∙ ap (λ (s : WordSet). value_read (set_byte s)) (sym c.in-Bad.is)
 
-pub set-value-spec : {M : Type 1} → statement M
-set-value-spec = tie.close (tie.spec (search rules) (search rules) (search rules) (search rules) returns returns-2)
+pub set_value_spec : {M : Type 1} → statement M
+set_value_spec = tie.close (tie.spec (search rules) (search rules) (search rules) (search rules) returns returns-2)

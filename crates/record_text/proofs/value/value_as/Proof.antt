@@ -15,38 +15,29 @@ row : (m n : Notation) (flags : List ℕ) (width : ℕ) (text : List ℕ) (r : V
     → r ≡ value_read (value_bytes flags n width text)
 row m n flags width text r e h = e ∙ ap (λ (x : Notation). value_read (value_bytes flags x width text)) (sym h)
 
-oem : tie.Need-oem-value-requires
-oem c κs = oem-width _ _ c.enum_told.given.1 (search rules)
+oem : tie.Need-oem_value-requires
+oem c κs = oem-width _ _ c.in-Oem.is (search rules)
 
-number : tie.Need-number-value-requires
+number : tie.Need-number_value-requires
 number c κs =
-    let at-start = c.before.before.before in
-    let a = at-start.args in
-    sym (ap (λ (n : Notation). fits n a.width) c.enum-told4.given.1) ∙ at-start.requires
+    let a = c.args in
+    sym (ap (λ (n : Notation). fits n a.width) c.in-Number.is) ∙ c.requires
 
 -- a port has two bytes
-port : tie.Need-returns-5
+port : tie.Need-returns-in-Port
 unfolding value_bytes
 port c =
-    let start = c.before.before.before.before in
-    let told = c.before.enum-told5.given.1 in
-    row _ _ _ _ _ _ (c.short-number.ensures ∙ ap (λ (w : ℕ). value_read (number_bytes w start.args.text.now)) (port-width _ _ told start.requires)) told
+    let told = c.in-Port.is in
+    row _ _ _ _ _ _ (c.short_number.ensures ∙ ap (λ (w : ℕ). value_read (number_bytes w c.args.text.now)) (port-width _ _ told c.requires)) told
 
-pub value-as-spec : {M : Type 1} → statement M
+pub value_as_spec : {M : Type 1} → statement M
 unfolding value_bytes
-value-as-spec =
-    tie.close
-    (tie.spec
-    (search rules) oem (search rules) (search rules) (search rules) (search rules) (search rules) number (search rules)
-    (search rules) (search rules) (search rules) (search rules) (search rules) (search rules) (search rules)
-    (search rules) (search rules) (search rules) (search rules)
-    (λ c. row _ _ _ _ _ _ c.oem-value.ensures c.before.enum_told.given.1)
-    (λ c. row _ _ _ _ _ _ c.mode-value.ensures c.before.enum-told2.given.1)
-    (λ c. row _ _ _ _ _ _ c.flags-value.ensures c.before.enum-told3.given.1)
-    (λ c. row _ _ _ _ _ _ c.number-value.ensures c.before.enum-told4.given.1)
-    port
-    (λ c. row _ _ _ _ _ _ c.address-value.ensures c.before.enum-told6.given.1)
-    (λ c. row _ _ _ _ _ _ c.mac-value.ensures c.before.enum-told7.given.1)
-    (λ c. row _ _ _ _ _ _ c.pci-value.ensures c.before.enum-told8.given.1)
-    (λ c. row _ _ _ _ _ _ c.chap-value.ensures c.before.enum-told9.given.1)
-    (λ c. row _ _ _ _ _ _ c.unread.ensures c.before.enum-told10.given.1))
+value_as_spec = tie.close (tie.spec (search rules) oem (search rules) (search rules) (search rules) (search rules)
+    (search rules) number (search rules) (search rules) (search rules) (search rules) (search rules) (search rules)
+    (search rules) (search rules) (search rules) (search rules) (search rules) (search rules)
+    (λ c. row _ _ _ _ _ _ c.oem_value.ensures c.in-Oem.is) (λ c. row _ _ _ _ _ _ c.mode_value.ensures c.in-Mode.is)
+    (λ c. row _ _ _ _ _ _ c.flags_value.ensures c.in-Flags.is)
+    (λ c. row _ _ _ _ _ _ c.number_value.ensures c.in-Number.is) port
+    (λ c. row _ _ _ _ _ _ c.address_value.ensures c.in-Address.is)
+    (λ c. row _ _ _ _ _ _ c.mac_value.ensures c.in-Mac.is) (λ c. row _ _ _ _ _ _ c.pci_value.ensures c.in-Pci.is)
+    (λ c. row _ _ _ _ _ _ c.chap_value.ensures c.in-Chap.is) (λ c. row _ _ _ _ _ _ c.unread.ensures c.in-Text.is))

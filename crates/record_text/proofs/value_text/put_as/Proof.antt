@@ -20,112 +20,77 @@ row : {a b : List ℕ} {at r : ℕ} {text : List ℕ} (m n : Notation) (flags by
     → Puts a b at r (value_text flags n bytes)
 row m n flags bytes p e h = puts-same p (e ∙ ap (λ (x : Notation). value_text flags x bytes) (sym h))
 
-returns : tie.Need-returns
+returns : tie.Need-returns-in-Oem
 unfolding value_text
 returns c =
-    let at-put-oem = c.before.before in
-    let at-enum-told = at-put-oem.before.before in
-    let at-start = at-enum-told.before.before.before.before in
-    let a = at-start.args in
-    row Oem _ (group_of a.kind).flags a.bytes.now at-put-oem.put-oem.ensures (refl) at-enum-told.enum_told.given.1
+    let a = c.args in
+    row Oem _ (group_of a.kind).flags a.bytes.now c.put_oem.ensures (refl) c.in-Oem.is
 
-returns-2 : tie.Need-returns-2
+returns-2 : tie.Need-returns-in-Mode
 unfolding value_text
 returns-2 c =
-    let at-put-mode = c.before.before in
-    let at-byte-at = at-put-mode.before in
-    let at-enum-told2 = at-byte-at.before.before in
-    let at-start = at-enum-told2.before.before.before.before in
-    let a = at-start.args in
-    row Mode _ (group_of a.kind).flags a.bytes.now at-put-mode.put-mode.ensures
-    (ap (word_at modes) at-byte-at.byte_at.ensures) at-enum-told2.enum-told2.given.1
+    let a = c.args in
+    row Mode _ (group_of a.kind).flags a.bytes.now c.put_mode.ensures
+    (ap (word_at modes) c.byte_at.ensures) c.in-Mode.is
 
-returns-3 : tie.Need-returns-3
+returns-3 : tie.Need-returns-in-Flags
 unfolding value_text
 returns-3 c =
-    let at-put-flags = c.before.before in
-    let at-byte-at2 = at-put-flags.before in
-    let at-enum-told3 = at-byte-at2.before.before in
-    let at-start = at-enum-told3.before.before.before.before in
-    let a = at-start.args in
-    row Flags _ (group_of a.kind).flags a.bytes.now at-put-flags.put-flags.ensures
-    (ap (word_set_text (group_of a.kind).flags) at-byte-at2.byte-at2.ensures) at-enum-told3.enum-told3.given.1
+    let a = c.args in
+    row Flags _ (group_of a.kind).flags a.bytes.now c.put_flags.ensures
+    (ap (word_set_text (group_of a.kind).flags) c.byte_at-in-Flags.ensures) c.in-Flags.is
 
-returns-4 : tie.Need-returns-4
+returns-4 : tie.Need-returns-in-Number
 unfolding value_text
 returns-4 c =
-    let at-put-decimal = c.before.before in
-    let at-u64-at = at-put-decimal.before in
-    let at-enum-told4 = at-u64-at.before.before in
-    let at-start = at-enum-told4.before.before.before.before in
-    let a = at-start.args in
-    row Number _ (group_of a.kind).flags a.bytes.now at-put-decimal.put-decimal.ensures
-    (ap (digits 10) at-u64-at.u64-at.ensures) at-enum-told4.enum-told4.given.1
+    let a = c.args in
+    row Number _ (group_of a.kind).flags a.bytes.now c.put_decimal.ensures
+    (ap (digits 10) c.u64_at.ensures) c.in-Number.is
 
-returns-5 : tie.Need-returns-5
+returns-5 : tie.Need-returns-in-Port
 unfolding value_text
 returns-5 c =
-    let at-put-decimal2 = c.before.before in
-    let at-u64-at2 = at-put-decimal2.before in
-    let at-enum-told5 = at-u64-at2.before.before in
-    let at-start = at-enum-told5.before.before.before.before in
-    let a = at-start.args in
-    row Port _ (group_of a.kind).flags a.bytes.now at-put-decimal2.put-decimal2.ensures
-    (ap (digits 10) at-u64-at2.u64-at2.ensures) at-enum-told5.enum-told5.given.1
+    let a = c.args in
+    row Port _ (group_of a.kind).flags a.bytes.now c.put_decimal-in-Port.ensures
+    (ap (digits 10) c.u64_at-in-Port.ensures) c.in-Port.is
 
-returns-6 : tie.Need-returns-6
+returns-6 : tie.Need-returns-in-Address
 unfolding value_text
 returns-6 c =
-    let at-put-address = c.before.before in
-    let at-enum-told6 = at-put-address.before.before in
-    let at-start = at-enum-told6.before.before.before.before in
-    let a = at-start.args in
-    row Address _ (group_of a.kind).flags a.bytes.now at-put-address.put-address.ensures (refl) at-enum-told6.enum-told6.given.1
+    let a = c.args in
+    row Address _ (group_of a.kind).flags a.bytes.now c.put_address.ensures (refl) c.in-Address.is
 
-returns-7 : tie.Need-returns-7
+returns-7 : tie.Need-returns-in-Mac
 unfolding value_text
 returns-7 c =
-    let at-put-mac = c.before.before in
-    let at-enum-told7 = at-put-mac.before.before in
-    let at-start = at-enum-told7.before.before.before.before in
-    let a = at-start.args in
-    row Mac _ (group_of a.kind).flags a.bytes.now at-put-mac.put-mac.ensures (refl) at-enum-told7.enum-told7.given.1
+    let a = c.args in
+    row Mac _ (group_of a.kind).flags a.bytes.now c.put_mac.ensures (refl) c.in-Mac.is
 
-returns-8 : tie.Need-returns-8
+returns-8 : tie.Need-returns-in-Pci
 unfolding value_text
 returns-8 c =
-    let at-put-pci = c.before.before in
-    let at-u16-at = at-put-pci.before in
-    let at-enum-told8 = at-u16-at.before.before in
-    let at-start = at-enum-told8.before.before.before.before in
-    let a = at-start.args in
-    row Pci _ (group_of a.kind).flags a.bytes.now at-put-pci.put-pci.ensures
-    (ap pci_text at-u16-at.u16-at.ensures) at-enum-told8.enum-told8.given.1
+    let a = c.args in
+    row Pci _ (group_of a.kind).flags a.bytes.now c.put_pci.ensures
+    (ap pci_text c.u16_at.ensures) c.in-Pci.is
 
-returns-9 : tie.Need-returns-9
+returns-9 : tie.Need-returns-in-Chap
 unfolding value_text
 returns-9 c =
-    let at-put-chap = c.before.before in
-    let at-byte-at3 = at-put-chap.before in
-    let at-enum-told9 = at-byte-at3.before.before in
-    let at-start = at-enum-told9.before.before.before.before in
-    let a = at-start.args in
-    row Chap _ (group_of a.kind).flags a.bytes.now at-put-chap.put-chap.ensures
-    (ap (word_at chap_types) at-byte-at3.byte-at3.ensures) at-enum-told9.enum-told9.given.1
+    let a = c.args in
+    row Chap _ (group_of a.kind).flags a.bytes.now c.put_chap.ensures
+    (ap (word_at chap_types) c.byte_at-in-Chap.ensures) c.in-Chap.is
 
-returns-10 : tie.Need-returns-10
+returns-10 : tie.Need-returns-in-Text
 unfolding value_text
 returns-10 c =
-    let at-put-string-text = c.before.before in
-    let at-enum-told10 = at-put-string-text.before.before in
-    let at-start = at-enum-told10.before.before.before.before in
-    let a = at-start.args in
-    row Text _ (group_of a.kind).flags a.bytes.now at-put-string-text.put-string-text.ensures (refl) at-enum-told10.enum-told10.given.1
+    let a = c.args in
+    row Text _ (group_of a.kind).flags a.bytes.now c.put_string_text.ensures (refl) c.in-Text.is
 
-pub put-as-spec : {M : Type 1} → statement M
-put-as-spec = tie.close (tie.spec (search rules) (search rules) (search rules) (search rules) (search rules) (search rules)
-    (search rules) (search rules) (search rules) (search rules) (search rules) (search rules) (search rules) (search rules)
-    (search rules) (search rules) (search rules) (search rules) (search rules) (search rules) (search rules) (search rules)
-    (search rules) (search rules) (search rules) (search rules) (search rules) returns (search rules) returns-2
-    (search rules) returns-3 (search rules) returns-4 (search rules) returns-5 (search rules) returns-6
-    (search rules) returns-7 (search rules) returns-8 (search rules) returns-9 (search rules) returns-10)
+pub put_as_spec : {M : Type 1} → statement M
+put_as_spec = tie.close (tie.spec (search rules) (search rules) (search rules) (search rules) (search rules)
+    (search rules) (search rules) (search rules) (search rules) (search rules) (search rules) (search rules)
+    (search rules) (search rules) (search rules) (search rules) (search rules) (search rules) (search rules)
+    (search rules) (search rules) (search rules) (search rules) (search rules) (search rules) (search rules)
+    (search rules) returns (search rules) returns-2 (search rules) returns-3 (search rules) returns-4 (search rules)
+    returns-5 (search rules) returns-6 (search rules) returns-7 (search rules) returns-8 (search rules) returns-9
+    (search rules) returns-10)

@@ -7,7 +7,7 @@ use Rattle.record_text.proofs.value_text.put_chap.Tie as tie
 
 returns : tie.Need-returns
 unfolding tabulate
-returns c = puts-same c.before.before.put-text.ensures c.before.before.before.word_at.ensures
+returns c = puts-same c.put_text.ensures c.word_at.ensures
 
-pub put-chap-spec : {M : Type 1} → statement M
-put-chap-spec = tie.close (tie.spec (search rules) (search rules) (search rules) (search rules) returns)
+pub put_chap_spec : {M : Type 1} → statement M
+put_chap_spec = tie.close (tie.spec (search rules) (search rules) (search rules) returns)

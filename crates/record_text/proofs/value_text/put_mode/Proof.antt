@@ -7,7 +7,7 @@ use Rattle.record_text.proofs.value_text.put_mode.Tie as tie
 
 returns : tie.Need-returns
 unfolding tabulate
-returns c = puts-same c.before.before.put-text.ensures c.before.before.before.word_at.ensures
+returns c = puts-same c.put_text.ensures c.word_at.ensures
 
-pub put-mode-spec : {M : Type 1} → statement M
-put-mode-spec = tie.close (tie.spec (search rules) (search rules) (search rules) (search rules) returns)
+pub put_mode_spec : {M : Type 1} → statement M
+put_mode_spec = tie.close (tie.spec (search rules) (search rules) (search rules) returns)

@@ -10,16 +10,13 @@ use borrow.Author.Rules.{rules}
 use Rattle.record_text.proofs.value_text.put_oem.Statement.{statement}
 use Rattle.record_text.proofs.value_text.put_oem.Tie as tie
 
-lent : tie.Need-slice-aggregate-put-string-text
-lent c = sym (length-take-le _ _ c.before.before.index-of.ensures.1)
+lent : tie.Need-slice_bounds-put_string_text-end
+lent c = sym (length-take-le _ _ c.index_of-n.ensures.1)
 
 returns : tie.Need-returns
 returns c =
-    let at-put-string-text = c.before.before in
-    let at-index-of = at-put-string-text.before.before.before in
-    let at-start = at-index-of.before.before.before in
-    let bytes = at-start.args.bytes.now in
-    puts-same at-put-string-text.put-string-text.ensures (ap (λ (n : ℕ). string_text (take n bytes)) at-index-of.index-of.ensures.0)
+    let bytes = c.args.bytes.now in
+    puts-same c.put_string_text.ensures (ap (λ (n : ℕ). string_text (take n bytes)) c.index_of-n.ensures.0)
 
-pub put-oem-spec : {M : Type 1} → statement M
-put-oem-spec = tie.close (tie.spec (search rules) lent (search rules) (search rules) returns)
+pub put_oem_spec : {M : Type 1} → statement M
+put_oem_spec = tie.close (tie.spec (search rules) lent (search rules) (search rules) returns)

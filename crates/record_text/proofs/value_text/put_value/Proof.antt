@@ -10,12 +10,9 @@ use Rattle.record_text.proofs.value_text.put_value.Tie as tie
 
 returns : tie.Need-returns
 returns c =
-    let at-put-as = c.before.before in
-    let at-field-at = at-put-as.before.before in
-    let at-start = at-field-at.before.before.before in
-    let a = at-start.args in
-    puts-same at-put-as.Put-as.ensures
-    (ap (λ (x : FieldLayout). value_text (group_of a.kind).flags x.notation a.bytes.now) at-field-at.field_at.ensures)
+    let a = c.args in
+    puts-same c.put_as.ensures
+    (ap (λ (x : FieldLayout). value_text (group_of a.kind).flags x.notation a.bytes.now) c.field_at-field.ensures)
 
-pub put-value-spec : {M : Type 1} → statement M
-put-value-spec = tie.close (tie.spec (search rules) (search rules) (search rules) returns)
+pub put_value_spec : {M : Type 1} → statement M
+put_value_spec = tie.close (tie.spec (search rules) (search rules) (search rules) returns)
