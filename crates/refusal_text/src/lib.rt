@@ -1,5 +1,7 @@
 // A refusal as a line of text, as the bench programs print it: `refused 12 60`. With 6 the checksum byte that would be right
 // stands last: `refused 6 9 211`. Where one of two tables is refused its side stands behind all of these: `refused 6 9 211 1`.
+#![tactic(auto)]
+
 ghost use Rattle.text.specs.Put.{Puts};
 ghost use Rattle.refusal_text.specs.RefusalText.{next_number, checksum_text, refusal_words, refusal_text, side_refusal_text};
 

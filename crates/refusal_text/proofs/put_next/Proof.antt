@@ -6,9 +6,7 @@ use Rattle.refusal_text.proofs.put_next.Tie as tie
 
 returns : tie.Need-returns
 returns c =
-    let at-put-decimal = c.before.before in
-    let at-put-char = at-put-decimal.before.before.before.before in
-    puts-append at-put-char.put-char.ensures at-put-decimal.put-decimal.ensures
+    puts-append c.put_char-digits.ensures c.put_decimal.ensures
 
-pub put-next-spec : {M : Type 1} → statement M
-put-next-spec = tie.close (tie.spec (search rules) (search rules) (search rules) returns)
+pub put_next_spec : {M : Type 1} → statement M
+put_next_spec = tie.close (tie.spec (search rules) (search rules) (search rules) returns)

@@ -8,9 +8,7 @@ use Rattle.refusal_text.proofs.put_refusal.Tie as tie
 returns : tie.Need-returns
 unfolding refusal_text
 returns c =
-    let at-put-char = c.before.before in
-    let at-put-words = at-put-char.before.before.before.before in
-    puts-append at-put-words.put-words.ensures at-put-char.put-char.ensures
+    puts-append c.put_words-end.ensures c.put_char.ensures
 
-pub put-refusal-spec : {M : Type 1} → statement M
-put-refusal-spec = tie.close (tie.spec (search rules) (search rules) (search rules) returns)
+pub put_refusal_spec : {M : Type 1} → statement M
+put_refusal_spec = tie.close (tie.spec (search rules) (search rules) (search rules) returns)

@@ -5,33 +5,21 @@ use borrow.Author.Rules.{rules}
 use Rattle.family_text.proofs.enter.field_step.Statement.{statement}
 use Rattle.family_text.proofs.enter.field_step.Tie as tie
 
-returns : tie.Need-returns
+returns : tie.Need-returns-then-field_count-n
 returns c =
-    let at-field-count = c.before in
-    let at-start = at-field-count.before.before.before.before in
-    field-unknown at-start.args.family at-start.args.n at-start.args.text.now _ _ at-field-count.field-count.ensures.0 c.if1.true
+    field-unknown c.args.family c.args.n c.args.text.now _ _ c.field_count.ensures.0 c.if-field_count-n.true
 
-returns-2 : tie.Need-returns-2
+returns-2 : tie.Need-returns-then-byte_at-eq1
 returns-2 c =
-    let at-byte-at = c.before in
-    let at-if1 = at-byte-at.before.before in
-    let at-field-count = at-if1.before in
-    let at-start = at-field-count.before.before.before.before in
-    field-again at-start.args.family at-start.args.n at-start.args.text.now _ _
-    at-field-count.field-count.ensures.0 at-if1.if1.false _ at-byte-at.byte_at.ensures c.if2.true
+    field-again c.args.family c.args.n c.args.text.now _ _
+    c.field_count.ensures.0 c.if-field_count-n.false _ c.byte_at.ensures c.if-byte_at-eq1.true
 
-returns-3 : tie.Need-returns-3
+returns-3 : tie.Need-returns
 returns-3 c =
-    let at-value-step = c.before.before.before.before in
-    let at-if2 = at-value-step.before.before.before in
-    let at-byte-at = at-if2.before in
-    let at-if1 = at-byte-at.before.before in
-    let at-field-count = at-if1.before in
-    let at-start = at-field-count.before.before.before.before in
-    at-value-step.value-step.ensures
-    ∙ field-first at-start.args.family at-start.args.n at-start.args.text.now _ _
-    at-field-count.field-count.ensures.0 at-if1.if1.false _ at-byte-at.byte_at.ensures at-if2.if2.false
+    c.value_step.ensures
+    ∙ field-first c.args.family c.args.n c.args.text.now _ _
+    c.field_count.ensures.0 c.if-field_count-n.false _ c.byte_at.ensures c.if-byte_at-eq1.false
 
-pub field-step-spec : {M : Type 1} → statement M
-field-step-spec = tie.close (tie.spec (search rules) (search rules) returns (search rules) (search rules)
+pub field_step_spec : {M : Type 1} → statement M
+field_step_spec = tie.close (tie.spec (search rules) (search rules) returns (search rules) (search rules)
     (search rules) returns-2 (search rules) (search rules) (search rules) (search rules) returns-3)

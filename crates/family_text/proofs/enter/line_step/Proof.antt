@@ -6,28 +6,17 @@ use borrow.Author.Rules.{rules}
 use Rattle.family_text.proofs.enter.line_step.Statement.{statement}
 use Rattle.family_text.proofs.enter.line_step.Tie as tie
 
-returns : tie.Need-returns
+returns : tie.Need-returns-then-says_nothing
 returns c =
-    let at-says-nothing = c.before in
-    let at-trimmed = at-says-nothing.before in
-    let at-start = at-trimmed.before.before.before.before in
-    line-nothing at-start.args.family _ _ _ _ (at-trimmed.trimmed.ensures.bytes ∙ trim-part _) at-says-nothing.says_nothing.ensures c.if1.true
+    line-nothing c.args.family _ _ _ _ (c.trimmed-said.ensures.bytes ∙ trim-part _) c.says_nothing.ensures c.if-says_nothing.true
 
-returns-2 : tie.Need-returns-2
+returns-2 : tie.Need-returns
 returns-2 c =
-    let at-field-step = c.before.before.before.before in
-    let at-value-of = at-field-step.before in
-    let at-field-named = at-value-of.before.before.before in
-    let at-field-text = at-field-named.before in
-    let at-if1 = at-field-text.before in
-    let at-says-nothing = at-if1.before in
-    let at-trimmed = at-says-nothing.before in
-    let at-start = at-trimmed.before.before.before.before in
-    at-field-step.field_step.ensures
-    ∙ line-field at-start.args.family _ _ _ _ (at-trimmed.trimmed.ensures.bytes ∙ trim-part _)
-    at-says-nothing.says_nothing.ensures at-if1.if1.false _ _ _
-    at-field-text.field-text.ensures.bytes at-field-named.field-named.ensures (at-value-of.value_of_lem.ensures.bytes ∙ value-part _)
+    c.field_step.ensures
+    ∙ line-field c.args.family _ _ _ _ (c.trimmed-said.ensures.bytes ∙ trim-part _)
+    c.says_nothing.ensures c.if-says_nothing.false _ _ _
+    c.field_text.ensures.bytes c.field_named-n.ensures (c.value_of.ensures.bytes ∙ value-part _)
 
-pub line-step-spec : {M : Type 1} → statement M
-line-step-spec = tie.close (tie.spec (search rules) (search rules) returns (search rules) (search rules) (search rules)
-    (search rules) (search rules) (search rules) returns-2)
+pub line_step_spec : {M : Type 1} → statement M
+line_step_spec = tie.close (tie.spec (search rules) (search rules) returns (search rules) (search rules)
+    (search rules) (search rules) (search rules) (search rules) returns-2)

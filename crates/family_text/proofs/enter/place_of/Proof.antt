@@ -9,7 +9,7 @@ use Rattle.family_text.proofs.enter.place_of.Tie as tie
 
 returns : tie.Need-returns
 unfolding place_of
-returns c = rw c.before.place-written.ensures.0 (ap (λ (x : FieldLayout). place_written x.part + x.at) c.before.before.field_at.ensures)
+returns c = rw c.place_written.ensures.0 (ap (λ (x : FieldLayout). place_written x.part + x.at) c.field_at-field.ensures)
 
-pub place-of-spec : {M : Type 1} → statement M
-place-of-spec = tie.close (tie.spec (search rules) (search rules) (search rules) (search rules) (search rules) returns)
+pub place_of_spec : {M : Type 1} → statement M
+place_of_spec = tie.close (tie.spec (search rules) (search rules) (search rules) (search rules) (search rules) returns)

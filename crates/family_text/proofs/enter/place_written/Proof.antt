@@ -8,13 +8,13 @@ use borrow.Author.Rules.{rules}
 use Rattle.family_text.proofs.enter.place_written.Statement.{statement}
 use Rattle.family_text.proofs.enter.place_written.Tie as tie
 
-returns : tie.Need-returns
-returns c = (place-start _ c.if1.true, omega arith)
+returns : tie.Need-returns-then-part-eq0
+returns c = (place-start _ c.if-part-eq0.true, omega arith)
 
-returns-2 : tie.Need-returns-2
+returns-2 : tie.Need-returns
 returns-2 c =
     let place = ap (λ (x : Part). x.place) c.part_of.ensures in
-    (place ∙ place-part _ c.before.if1.false, omega (arith, place, place-low (c.before.before.args.part - 1)))
+    (place ∙ place-part _ c.if-part-eq0.false, omega (arith, place, place-low (c.args.part - 1)))
 
-pub place-written-spec : {M : Type 1} → statement M
-place-written-spec = tie.close (tie.spec returns (search rules) (search rules) returns-2)
+pub place_written_spec : {M : Type 1} → statement M
+place_written_spec = tie.close (tie.spec returns (search rules) (search rules) returns-2)

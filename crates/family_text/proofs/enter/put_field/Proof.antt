@@ -9,14 +9,10 @@ use Rattle.family_text.proofs.enter.put_field.Tie as tie
 
 returns : tie.Need-returns
 returns c =
-    let at-put-bytes = c.before.before in
-    let at-put-present = at-put-bytes.before.before.before.before in
-    let at-field-at = at-put-present.before in
-    let at-place-of = at-field-at.before.before in
-    let at-start = at-place-of.before.before.before in
-    at-put-bytes.put-bytes.ensures ∙ rw (at-put-present.put-present.ensures, at-place-of.place_of.ensures)
-    (ap (λ (x : FieldLayout). write (present at-start.args.image.now x.part)
-    (place_of at-start.args.family at-start.args.n) at-start.args.bytes.now) at-field-at.field_at.ensures)
+    c.put_bytes.ensures ∙ rw (c.put_present.ensures, c.place_of-place.ensures)
+    (ap (λ (x : FieldLayout). write (present c.args.image.now x.part)
+    (place_of c.args.family c.args.n) c.args.bytes.now) c.field_at.ensures)
 
-pub put-field-spec : {M : Type 1} → statement M
-put-field-spec = tie.close (tie.spec (search rules) (search rules) (search rules) (search rules) (search rules) returns)
+pub put_field_spec : {M : Type 1} → statement M
+put_field_spec = tie.close (tie.spec (search rules) (search rules) (search rules) (search rules) (search rules)
+    returns)

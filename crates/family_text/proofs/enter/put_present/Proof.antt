@@ -8,18 +8,14 @@ use borrow.Author.Rules.{rules}
 use Rattle.family_text.proofs.enter.put_present.Statement.{statement}
 use Rattle.family_text.proofs.enter.put_present.Tie as tie
 
-returns : tie.Need-returns
-returns c = present-other _ _ c.if1.true
+returns : tie.Need-returns-then-part-ne-IB_PART
+returns c = present-other _ _ c.if-part-ne-IB_PART.true
 
-returns-2 : tie.Need-returns-2
+returns-2 : tie.Need-returns
 unfolding part_of
 returns-2 c =
-    let at-put-u16 = c.before.before in
-    let at-part-of = at-put-u16.before.before.before in
-    let at-if1 = at-part-of.before in
-    let at-start = at-if1.before.before in
-    let word = ap (λ (x : Part). write at-start.args.image.now x.word (le16 x.place)) at-part-of.part_of.ensures in
-    present-ib _ _ _ at-if1.if1.false (at-put-u16.put-u16.ensures ∙ word)
+    let word = ap (λ (x : Part). write c.args.image.now x.word (le16 x.place)) c.part_of-ib.ensures in
+    present-ib _ _ _ c.if-part-ne-IB_PART.false (c.put_u16.ensures ∙ word)
 
-pub put-present-spec : {M : Type 1} → statement M
-put-present-spec = tie.close (tie.spec returns (search rules) (search rules) (search rules) (search rules) returns-2)
+pub put_present_spec : {M : Type 1} → statement M
+put_present_spec = tie.close (tie.spec returns (search rules) (search rules) (search rules) (search rules) returns-2)

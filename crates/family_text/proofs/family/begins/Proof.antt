@@ -10,7 +10,7 @@ use Rattle.family_text.proofs.family.begins.Tie as tie
 
 returns : tie.Need-returns
 unfolding begins
-returns c = c.same.ensures ∙ ap (λ (x : List ℕ). same x c.before.before.before.before.args.front.now) c.before.part.ensures.bytes
+returns c = c.same.ensures ∙ ap (λ (x : List ℕ). same x c.args.front.now) c.part.ensures.bytes
 
-pub begins-spec : {M : Type 1} → statement M
-begins-spec = tie.close (tie.spec (search rules) (search rules) returns)
+pub begins_spec : {M : Type 1} → statement M
+begins_spec = tie.close (tie.spec (search rules) (search rules) returns)

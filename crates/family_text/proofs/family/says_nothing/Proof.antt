@@ -8,5 +8,5 @@ returns : tie.Need-returns
 unfolding says_nothing
 returns c = cc
 
-pub says-nothing-spec : {M : Type 1} → statement M
-says-nothing-spec = tie.close (tie.spec (search rules) returns)
+pub says_nothing_spec : {M : Type 1} → statement M
+says_nothing_spec = tie.close (tie.spec (search rules) returns)

@@ -13,59 +13,45 @@ use borrow.Author.Rules.{rules}
 use Rattle.family_text.proofs.family.stray_from.Statement.{statement}
 use Rattle.family_text.proofs.family.stray_from.Tie as tie
 
-abbrev invariant-loop : tie.invariant-loop
+abbrev invariant-loop : tie.invariant-loop-rest
 invariant-loop family text start₀ line₀ start line =
     (start ≤ length text) × (line ≤ start + 1) × (stray_from family line (pieces 10 (drop start text)) ≡ stray_from family 1 (pieces 10 text))
 
-abbrev decreases-loop : tie.decreases-loop
+abbrev decreases-loop : tie.decreases-loop-rest
 decreases-loop family text start₀ line₀ start line = length text + 1 - start
 
-loop-holds : tie.Need-loop-init invariant-loop decreases-loop
+loop-holds : tie.Need-loop-rest-init invariant-loop decreases-loop
 loop-holds c = (search rules, search rules, refl)
 
-slice-aggregate-line-family : tie.Need-slice-aggregate-line-family invariant-loop decreases-loop
-slice-aggregate-line-family c = sym (length-take-le _ _ c.before.index-of.ensures.1)
+slice-aggregate-line-family : tie.Need-slice_bounds-line_family-end invariant-loop decreases-loop
+slice-aggregate-line-family c = sym (length-take-le _ _ c.index_of-size.ensures.1)
 
-returns : tie.Need-returns invariant-loop decreases-loop
+returns : tie.Need-returns-then-found-family invariant-loop decreases-loop
 returns c =
-    let at-line-family = c.before in
-    let at-index-of = at-line-family.before.before in
-    let at-loop = at-index-of.before.before in
-    let at-start = at-loop.before.before in
-    let text = at-start.args.text.now in
-    let start = at-loop.loop.start in
-    stray-found text start _ (take_rest start text) _ at-index-of.index-of.ensures.0 _
-    at-line-family.line-family.ensures _ _ c.if1.true ∙ at-loop.loop.invariant.2
+    let text = c.args.text.now in
+    let start = c.loop-rest.start in
+    stray-found text start _ (take_rest start text) _ c.index_of-size.ensures.0 _
+    c.line_family-found.ensures _ _ c.if-found-family.true ∙ c.loop-rest.invariant.2
 
-returns-2 : tie.Need-returns-2 invariant-loop decreases-loop
+returns-2 : tie.Need-returns-then-size-rest invariant-loop decreases-loop
 returns-2 c =
-    let at-if1 = c.before in
-    let at-line-family = at-if1.before in
-    let at-index-of = at-line-family.before.before in
-    let at-loop = at-index-of.before.before in
-    let at-start = at-loop.before.before in
-    let text = at-start.args.text.now in
-    let start = at-loop.loop.start in
-    stray-last text start _ (take_rest start text) _ at-index-of.index-of.ensures.0 _
-    at-line-family.line-family.ensures _ _ at-if1.if1.false c.if2.true ∙ at-loop.loop.invariant.2
+    let text = c.args.text.now in
+    let start = c.loop-rest.start in
+    stray-last text start _ (take_rest start text) _ c.index_of-size.ensures.0 _
+    c.line_family-found.ensures _ _ c.if-found-family.false c.if-size-rest.true ∙ c.loop-rest.invariant.2
 
-loop-again : tie.Need-loop-preserved invariant-loop decreases-loop
+loop-again : tie.Need-loop-rest-preserved invariant-loop decreases-loop
 loop-again c =
-    let at-if1 = c.before in
-    let at-line-family = at-if1.before in
-    let at-index-of = at-line-family.before.before in
-    let at-loop = at-index-of.before.before in
-    let at-start = at-loop.before.before in
-    let text = at-start.args.text.now in
-    let start = at-loop.loop.start in
-    let found = at-index-of.index-of.ensures in
-    let size = at-index-of.index-of.result in
-    let short : size < length (take (length text - start) (drop start text)) = omega (arith, found.1, c.if2.false) in
-    let within : start + (size + 1) ≤ length text = omega (arith, short, ap length (take_rest start text), length-drop start text, at-loop.loop.invariant.0) in
-    let more = stray-more text start _ (take_rest start text) _ found.0 _ at-line-family.line-family.ensures _ _ at-if1.if1.false short in
-    (within, omega (arith, at-loop.loop.invariant.1), more ∙ at-loop.loop.invariant.2)
+    let text = c.args.text.now in
+    let start = c.loop-rest.start in
+    let found = c.index_of-size.ensures in
+    let size = c.index_of-size.result in
+    let short : size < length (take (length text - start) (drop start text)) = omega (arith, found.1, c.if-size-rest.false) in
+    let within : start + (size + 1) ≤ length text = omega (arith, short, ap length (take_rest start text), length-drop start text, c.loop-rest.invariant.0) in
+    let more = stray-more text start _ (take_rest start text) _ found.0 _ c.line_family-found.ensures _ _ c.if-found-family.false short in
+    (within, omega (arith, c.loop-rest.invariant.1), more ∙ c.loop-rest.invariant.2)
 
-pub stray-from-spec : {M : Type 1} → statement M
-stray-from-spec = tie.close (tie.spec invariant-loop decreases-loop loop-holds (search rules) (search rules) (search rules)
-    (search rules) slice-aggregate-line-family (search rules) returns returns-2 (search rules) (search rules) (search rules)
-    (search rules) loop-again)
+pub stray_from_spec : {M : Type 1} → statement M
+stray_from_spec = tie.close (tie.spec invariant-loop decreases-loop loop-holds (search rules) (search rules)
+    (search rules) (search rules) slice-aggregate-line-family (search rules) returns returns-2 (search rules)
+    (search rules) (search rules) (search rules) loop-again)

@@ -9,7 +9,7 @@ use Rattle.family_text.proofs.family.stray_line.Tie as tie
 
 returns : tie.Need-returns
 unfolding stray_in
-returns c = c.stray-from.ensures ∙ ap (λ (f : ℕ). stray_from f 1 (pieces 10 c.before.before.before.args.text.now)) c.before.family-of.ensures
+returns c = c.stray_from.ensures ∙ ap (λ (f : ℕ). stray_from f 1 (pieces 10 c.args.text.now)) c.family_of.ensures
 
-pub stray-line-spec : {M : Type 1} → statement M
-stray-line-spec = tie.close (tie.spec (search rules) (search rules) returns)
+pub stray_line_spec : {M : Type 1} → statement M
+stray_line_spec = tie.close (tie.spec (search rules) (search rules) returns)

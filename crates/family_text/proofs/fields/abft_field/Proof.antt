@@ -14,26 +14,26 @@ use Rattle.family_text.proofs.fields.abft_field.Tie as tie
 abbrev at : ℕ → FieldLayout
 at n = get_or abft_fields.layout n (field Oem 0 10 6)
 
-returns : tie.Need-returns
-returns c = row at 0 _ _ c.field.ensures c.before.match.keys1
+returns : tie.Need-returns-in-0
+returns c = row at 0 _ _ c.field.ensures c.in-0.is
 
-returns-2 : tie.Need-returns-2
-returns-2 c = row at 1 _ _ c.field2.ensures c.before.match.keys2
+returns-2 : tie.Need-returns-in-1
+returns-2 c = row at 1 _ _ c.field-in-1.ensures c.in-1.is
 
-returns-3 : tie.Need-returns-3
-returns-3 c = row at 2 _ _ c.field3.ensures c.before.match.keys3
+returns-3 : tie.Need-returns-in-2
+returns-3 c = row at 2 _ _ c.field-in-2.ensures c.in-2.is
 
-returns-4 : tie.Need-returns-4
-returns-4 c = row at 3 _ _ c.field4.ensures c.before.match.keys4
+returns-4 : tie.Need-returns-in-3
+returns-4 c = row at 3 _ _ c.field-in-3.ensures c.in-3.is
 
-returns-5 : tie.Need-returns-5
-returns-5 c = row at 4 _ _ c.field5.ensures c.before.match.keys5
+returns-5 : tie.Need-returns-in-4
+returns-5 c = row at 4 _ _ c.field-in-4.ensures c.in-4.is
 
-returns-6 : tie.Need-returns-6
+returns-6 : tie.Need-returns-in_default
 returns-6 c =
-    let past : length abft_fields.layout ≤ c.before.before.args.n = none_below _ 5 c.before.match.rest in
-    c.field6.ensures ∙ sym (get_or-eq_default abft_fields.layout (field Oem 0 10 6) past)
+    let past : length abft_fields.layout ≤ c.args.n = none_below _ 5 c.in_default.in_default-own.rest in
+    c.field-in_default.ensures ∙ sym (get_or-eq_default abft_fields.layout (field Oem 0 10 6) past)
 
-pub abft-field-spec : {M : Type 1} → statement M
-abft-field-spec = tie.close (tie.spec (search rules) (search rules) (search rules) (search rules) (search rules)
+pub abft_field_spec : {M : Type 1} → statement M
+abft_field_spec = tie.close (tie.spec (search rules) (search rules) (search rules) (search rules) (search rules)
     (search rules) returns returns-2 returns-3 returns-4 returns-5 returns-6)

@@ -6,5 +6,5 @@ use Rattle.family_text.proofs.fields.field.Tie as tie
 returns : tie.Need-returns
 returns c = refl
 
-pub field-spec : {M : Type 1} → statement M
-field-spec = tie.close (tie.spec returns)
+pub field_spec : {M : Type 1} → statement M
+field_spec = tie.close (tie.spec returns)

@@ -8,15 +8,15 @@ use borrow.Author.Rules.{rules}
 use Rattle.family_text.proofs.fields.field_at.Statement.{statement}
 use Rattle.family_text.proofs.fields.field_at.Tie as tie
 
-returns : tie.Need-returns
+returns : tie.Need-returns-then-family-eq-SBFT
 unfolding field_of
 returns c =
-    c.sbft-field.ensures ∙ sym (ap (λ (x : Fields). get_or x.layout c.before.before.args.n (field Oem 0 10 6)) (fields-sbft _ c.before.if1.true))
+    c.sbft_field.ensures ∙ sym (ap (λ (x : Fields). get_or x.layout c.args.n (field Oem 0 10 6)) (fields-sbft _ c.if-family-eq-SBFT.true))
 
-returns-2 : tie.Need-returns-2
+returns-2 : tie.Need-returns
 unfolding field_of
 returns-2 c =
-    c.abft-field.ensures ∙ sym (ap (λ (x : Fields). get_or x.layout c.before.before.args.n (field Oem 0 10 6)) (fields-abft _ c.before.if1.false))
+    c.abft_field.ensures ∙ sym (ap (λ (x : Fields). get_or x.layout c.args.n (field Oem 0 10 6)) (fields-abft _ c.if-family-eq-SBFT.false))
 
-pub field-at-spec : {M : Type 1} → statement M
-field-at-spec = tie.close (tie.spec (search rules) returns (search rules) returns-2)
+pub field_at_spec : {M : Type 1} → statement M
+field_at_spec = tie.close (tie.spec (search rules) returns (search rules) returns-2)

@@ -8,19 +8,15 @@ use borrow.Author.Rules.{rules}
 use Rattle.family_text.proofs.fields.field_named.Statement.{statement}
 use Rattle.family_text.proofs.fields.field_named.Tie as tie
 
-returns : tie.Need-returns
+returns : tie.Need-returns-then-family-eq-SBFT
 unfolding field_named tabulate
 returns c =
-    let at-if1 = c.before.before in
-    let at-start = at-if1.before.before in
-    c.word_number.ensures.0 ∙ sym (ap (λ (x : Fields). word_number x.names at-start.args.name.now) (fields-sbft _ at-if1.if1.true))
+    c.word_number.ensures.0 ∙ sym (ap (λ (x : Fields). word_number x.names c.args.name.now) (fields-sbft _ c.if-family-eq-SBFT.true))
 
-returns-2 : tie.Need-returns-2
+returns-2 : tie.Need-returns
 unfolding field_named tabulate
 returns-2 c =
-    let at-if1 = c.before.before in
-    let at-start = at-if1.before.before in
-    c.word-number2.ensures.0 ∙ sym (ap (λ (x : Fields). word_number x.names at-start.args.name.now) (fields-abft _ at-if1.if1.false))
+    c.word_number-2.ensures.0 ∙ sym (ap (λ (x : Fields). word_number x.names c.args.name.now) (fields-abft _ c.if-family-eq-SBFT.false))
 
-pub field-named-spec : {M : Type 1} → statement M
-field-named-spec = tie.close (tie.spec (search rules) (search rules) returns (search rules) (search rules) returns-2)
+pub field_named_spec : {M : Type 1} → statement M
+field_named_spec = tie.close (tie.spec (search rules) returns (search rules) returns-2)

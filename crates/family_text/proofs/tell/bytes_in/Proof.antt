@@ -10,10 +10,9 @@ use Rattle.family_text.proofs.tell.bytes_in.Tie as tie
 returns : tie.Need-returns
 unfolding bytes_in
 returns c =
-    let at-start-in = c.before.before.before in
-    let at-start = at-start-in.before.before in
-    let a = at-start.args in
-    c.part.ensures.bytes ∙ ap (λ (s : ℕ). part a.t.now (s + a.field.at) a.field.width) at-start-in.start-in.ensures
+    let a = c.args in
+    c.part.ensures.bytes ∙ ap (λ (s : ℕ). part a.t.now (s + a.field.at) a.field.width) c.start_in.ensures
 
-pub bytes-in-spec : {M : Type 1} → statement M
-bytes-in-spec = tie.close (tie.spec (search rules) (search rules) (search rules) (search rules) (search rules) (search rules) returns)
+pub bytes_in_spec : {M : Type 1} → statement M
+bytes_in_spec = tie.close (tie.spec (search rules) (search rules) (search rules) (search rules) (search rules)
+    (search rules) returns)

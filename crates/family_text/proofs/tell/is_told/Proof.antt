@@ -4,21 +4,14 @@ use borrow.Author.Rules.{rules}
 use Rattle.family_text.proofs.tell.is_told.Statement.{statement}
 use Rattle.family_text.proofs.tell.is_told.Tie as tie
 
-returns : tie.Need-returns
+returns : tie.Need-returns-then-is_oem
 returns c =
-    let at-bytes-in = c.before in
-    let at-if1 = at-bytes-in.before in
-    let at-is-oem = at-if1.before in
-    let at-start = at-is-oem.before.before in
-    told-oem at-start.args.t.now at-start.args.field _ at-is-oem.is-oem.ensures at-if1.if1.true _ _
-    at-bytes-in.bytes-in.ensures c.all-zero.ensures
+    told-oem c.args.t.now c.args.field _ c.is_oem.ensures c.if-is_oem.true _ _
+    c.bytes_in.ensures c.all_zero.ensures
 
-returns-2 : tie.Need-returns-2
+returns-2 : tie.Need-returns
 returns-2 c =
-    let at-if1 = c.before in
-    let at-is-oem = at-if1.before in
-    let at-start = at-is-oem.before.before in
-    told_part at-start.args.t.now at-start.args.field _ at-is-oem.is-oem.ensures at-if1.if1.false _ c.is-there.ensures
+    told_part c.args.t.now c.args.field _ c.is_oem.ensures c.if-is_oem.false _ c.is_there.ensures
 
-pub is-told-spec : {M : Type 1} → statement M
-is-told-spec = tie.close (tie.spec (search rules) (search rules) (search rules) returns (search rules) returns-2)
+pub is_told_spec : {M : Type 1} → statement M
+is_told_spec = tie.close (tie.spec (search rules) (search rules) (search rules) returns (search rules) returns-2)

@@ -5,20 +5,14 @@ use borrow.Author.Rules.{rules}
 use Rattle.family_text.proofs.tell.tell.Statement.{statement}
 use Rattle.family_text.proofs.tell.tell.Tie as tie
 
-returns : tie.Need-returns
+returns : tie.Need-returns-in-Accepted
 returns c =
-    let at-put-lines = c.before.before in
-    let at-enum-told = at-put-lines.before.before in
-    let at-check-of = at-enum-told.before.before in
-    puts-same at-put-lines.put-lines.ensures (text-accepted _ _ _ at-check-of.check-of.ensures at-enum-told.enum_told.given.1)
+    puts-same c.put_lines.ensures (text-accepted _ _ _ c.check_of.ensures c.in-Accepted.is)
 
-returns-2 : tie.Need-returns-2
+returns-2 : tie.Need-returns-in-Refused
 returns-2 c =
-    let at-put-text = c.before.before in
-    let at-enum-told2 = at-put-text.before.before.before in
-    let at-check-of = at-enum-told2.before.before in
-    puts-same at-put-text.put-text.ensures (text-refused _ _ _ at-check-of.check-of.ensures _ at-enum-told2.enum-told2.given.1)
+    puts-same c.put_text.ensures (text-refused _ _ _ c.check_of.ensures _ c.in-Refused.is)
 
-pub tell-spec : {M : Type 1} → statement M
-tell-spec = tie.close (tie.spec (search rules) (search rules) (search rules) (search rules) (search rules) (search rules)
+pub tell_spec : {M : Type 1} → statement M
+tell_spec = tie.close (tie.spec (search rules) (search rules) (search rules) (search rules) (search rules)
     (search rules) returns (search rules) returns-2)

@@ -8,9 +8,7 @@ use Rattle.family_text.proofs.value.address_value.Tie as tie
 
 returns : tie.Need-returns
 returns c =
-    let at-read-address = c.before in
-    let at-start = at-read-address.before.before in
-    address-read (read_address at-start.args.text.now) _ at-read-address.read-address.ensures (address-width at-start.args.text.now)
+    address-read (read_address c.args.text.now) _ c.read_address-address.ensures (address-width c.args.text.now)
 
-pub address-value-spec : {M : Type 1} → statement M
-address-value-spec = tie.close (tie.spec (search rules) returns)
+pub address_value_spec : {M : Type 1} → statement M
+address_value_spec = tie.close (tie.spec (search rules) returns)

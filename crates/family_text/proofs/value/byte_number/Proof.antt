@@ -5,14 +5,13 @@ use borrow.Author.Rules.{rules}
 use Rattle.family_text.proofs.value.byte_number.Statement.{statement}
 use Rattle.family_text.proofs.value.byte_number.Tie as tie
 
-returns : tie.Need-returns
+returns : tie.Need-returns-in-Value
 returns c =
-    let at_n = c.before.before in
-    let at-read-number = at_n.before.before in
-    c.byte-value.ensures ∙ number_read 1 _ _ (sym at_n.n.given.1 ∙ at-read-number.read_number.ensures)
+    c.byte_value.ensures ∙ number_read 1 _ _ (sym c.in-Value.is ∙ c.read_number.ensures)
 
-returns-2 : tie.Need-returns-2
-returns-2 c = c.unread.ensures ∙ number-unread 1 _ (sym c.before.enum_told.given.1 ∙ c.before.before.before.read_number.ensures)
+returns-2 : tie.Need-returns-in-Bad
+returns-2 c = c.unread.ensures ∙ number-unread 1 _ (sym c.in-Bad.is ∙ c.read_number.ensures)
 
-pub byte-number-spec : {M : Type 1} → statement M
-byte-number-spec = tie.close (tie.spec (search rules) (search rules) (search rules) (search rules) (search rules) (search rules) returns returns-2)
+pub byte_number_spec : {M : Type 1} → statement M
+byte_number_spec = tie.close (tie.spec (search rules) (search rules) (search rules) (search rules) (search rules)
+    (search rules) returns returns-2)

@@ -9,5 +9,5 @@ returns : tie.Need-returns
 unfolding value_read zeros
 returns c = refl
 
-pub byte-value-spec : {M : Type 1} → statement M
-byte-value-spec = tie.close (tie.spec returns)
+pub byte_value_spec : {M : Type 1} → statement M
+byte_value_spec = tie.close (tie.spec returns)

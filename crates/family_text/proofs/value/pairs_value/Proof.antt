@@ -7,16 +7,14 @@ use borrow.Author.Rules.{rules}
 use Rattle.family_text.proofs.value.pairs_value.Statement.{statement}
 use Rattle.family_text.proofs.value.pairs_value.Tie as tie
 
-slice-aggregate-read-pairs : tie.Need-slice-aggregate-read-pairs
-slice-aggregate-read-pairs c = sym (length-take-le _ _ c.before.before.requires)
+slice-aggregate-read-pairs : tie.Need-slice_bounds-read_pairs-end
+slice-aggregate-read-pairs c = sym (length-take-le _ _ c.requires)
 
 returns : tie.Need-returns
 unfolding zeros
 returns c =
-    let at-read-pairs = c.before in
-    let at-start = at-read-pairs.before.before.before in
-    pairs-read at-start.args.width at-start.args.text.now at-start.requires at-read-pairs.read_pairs.ensures.0
-    at-read-pairs.read_pairs.ensures.1
+    pairs-read c.args.width c.args.text.now c.requires c.read_pairs-ok.ensures.0
+    c.read_pairs-ok.ensures.1
 
-pub pairs-value-spec : {M : Type 1} → statement M
-pairs-value-spec = tie.close (tie.spec (search rules) slice-aggregate-read-pairs (search rules) returns)
+pub pairs_value_spec : {M : Type 1} → statement M
+pairs_value_spec = tie.close (tie.spec (search rules) slice-aggregate-read-pairs (search rules) returns)

@@ -7,14 +7,14 @@ use borrow.Author.Rules.{rules}
 use Rattle.family_text.proofs.value.read_value.Statement.{statement}
 use Rattle.family_text.proofs.value.read_value.Tie as tie
 
-value-as-requires : tie.Need-value-as-requires
+value-as-requires : tie.Need-value_as-requires
 value-as-requires c κs =
-    ap (λ (x : FieldLayout). fits x.notation x.width) c.field_at.ensures ∙ field_fits c.before.before.args.family c.before.before.args.n
+    ap (λ (x : FieldLayout). fits x.notation x.width) c.field_at-field.ensures ∙ field_fits c.args.family c.args.n
 
 returns : tie.Need-returns
 returns c =
     c.value_as.ensures
-    ∙ ap (λ (x : FieldLayout). value_read (value_bytes x.notation x.width c.before.before.before.args.text.now)) c.before.field_at.ensures
+    ∙ ap (λ (x : FieldLayout). value_read (value_bytes x.notation x.width c.args.text.now)) c.field_at-field.ensures
 
-pub read-value-spec : {M : Type 1} → statement M
-read-value-spec = tie.close (tie.spec (search rules) value-as-requires returns)
+pub read_value_spec : {M : Type 1} → statement M
+read_value_spec = tie.close (tie.spec (search rules) value-as-requires returns)

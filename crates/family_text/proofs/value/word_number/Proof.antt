@@ -10,15 +10,14 @@ use borrow.Author.Rules.{rules}
 use Rattle.family_text.proofs.value.word_number.Statement.{statement}
 use Rattle.family_text.proofs.value.word_number.Tie as tie
 
-returns : tie.Need-returns
+returns : tie.Need-returns-in-Value
 returns c =
-    let at_n = c.before.before in
-    let at-read-number = at_n.before.before in
     c.word_value.ensures ∙ ap (λ (t : List ℕ). value_read (some t)) (le16-low _)
-    ∙ number_read 2 _ _ (sym at_n.n.given.1 ∙ at-read-number.read_number.ensures)
+    ∙ number_read 2 _ _ (sym c.in-Value.is ∙ c.read_number.ensures)
 
-returns-2 : tie.Need-returns-2
-returns-2 c = c.unread.ensures ∙ number-unread 2 _ (sym c.before.enum_told.given.1 ∙ c.before.before.before.read_number.ensures)
+returns-2 : tie.Need-returns-in-Bad
+returns-2 c = c.unread.ensures ∙ number-unread 2 _ (sym c.in-Bad.is ∙ c.read_number.ensures)
 
-pub word-number-spec : {M : Type 1} → statement M
-word-number-spec = tie.close (tie.spec (search rules) (search rules) (search rules) (search rules) (search rules) (search rules) returns returns-2)
+pub word_number_spec : {M : Type 1} → statement M
+word_number_spec = tie.close (tie.spec (search rules) (search rules) (search rules) (search rules) (search rules)
+    (search rules) returns returns-2)

@@ -10,5 +10,5 @@ returns : tie.Need-returns
 unfolding value_read zeros
 returns c = refl
 
-pub word-value-spec : {M : Type 1} → statement M
-word-value-spec = tie.close (tie.spec (search rules) (search rules) returns)
+pub word_value_spec : {M : Type 1} → statement M
+word_value_spec = tie.close (tie.spec (search rules) (search rules) returns)

@@ -9,16 +9,14 @@ use borrow.Author.Rules.{rules}
 use Rattle.family_text.proofs.value_text.put_oem.Statement.{statement}
 use Rattle.family_text.proofs.value_text.put_oem.Tie as tie
 
-slice-aggregate-put-string-text : tie.Need-slice-aggregate-put-string-text
-slice-aggregate-put-string-text c = sym (length-take-le _ _ c.before.before.index-of.ensures.1)
+slice-aggregate-put-string-text : tie.Need-slice_bounds-put_string_text-end
+slice-aggregate-put-string-text c = sym (length-take-le _ _ c.index_of-n.ensures.1)
 
 returns : tie.Need-returns
 returns c =
-    let at-put-string-text = c.before.before in
-    let at-index-of = at-put-string-text.before.before.before in
-    let at-start = at-index-of.before.before.before in
-    let bytes = at-start.args.bytes.now in
-    puts-same at-put-string-text.put-string-text.ensures (ap (λ (n : ℕ). string_text (take n bytes)) at-index-of.index-of.ensures.0)
+    let bytes = c.args.bytes.now in
+    puts-same c.put_string_text.ensures (ap (λ (n : ℕ). string_text (take n bytes)) c.index_of-n.ensures.0)
 
-pub put-oem-spec : {M : Type 1} → statement M
-put-oem-spec = tie.close (tie.spec (search rules) slice-aggregate-put-string-text (search rules) (search rules) returns)
+pub put_oem_spec : {M : Type 1} → statement M
+put_oem_spec = tie.close (tie.spec (search rules) slice-aggregate-put-string-text (search rules) (search rules)
+    returns)

@@ -17,41 +17,28 @@ row : {a b : List ℕ} {at r : ℕ} {text : List ℕ} (m n : Notation) (width : 
     → Puts a b at r (value_text n width bytes)
 row m n width bytes p e h = puts-same p (e ∙ ap (λ (x : Notation). value_text x width bytes) (sym h))
 
-returns : tie.Need-returns
+returns : tie.Need-returns-in-Oem
 unfolding value_text
 returns c =
-    let at-put-oem = c.before.before in
-    let at-enum-told = at-put-oem.before.before in
-    let at-start = at-enum-told.before.before.before.before in
-    row Oem _ at-start.args.width at-start.args.bytes.now at-put-oem.put-oem.ensures refl at-enum-told.enum_told.given.1
+    row Oem _ c.args.width c.args.bytes.now c.put_oem.ensures refl c.in-Oem.is
 
-returns-2 : tie.Need-returns-2
+returns-2 : tie.Need-returns-in-Number
 unfolding value_text
 returns-2 c =
-    let at-put-decimal = c.before.before in
-    let at-u16-at = at-put-decimal.before in
-    let at-enum-told2 = at-u16-at.before.before in
-    let at-start = at-enum-told2.before.before.before.before in
-    row Number _ at-start.args.width at-start.args.bytes.now at-put-decimal.put-decimal.ensures
-    (ap (digits 10) at-u16-at.u16-at.ensures) at-enum-told2.enum-told2.given.1
+    row Number _ c.args.width c.args.bytes.now c.put_decimal.ensures
+    (ap (digits 10) c.u16_at.ensures) c.in-Number.is
 
-returns-3 : tie.Need-returns-3
+returns-3 : tie.Need-returns-in-Pairs
 unfolding value_text
 returns-3 c =
-    let at-put-pairs = c.before.before in
-    let at-enum-told3 = at-put-pairs.before.before in
-    let at-start = at-enum-told3.before.before.before.before in
-    row Pairs _ at-start.args.width at-start.args.bytes.now at-put-pairs.put-pairs.ensures refl at-enum-told3.enum-told3.given.1
+    row Pairs _ c.args.width c.args.bytes.now c.put_pairs.ensures refl c.in-Pairs.is
 
-returns-4 : tie.Need-returns-4
+returns-4 : tie.Need-returns-in-Address
 unfolding value_text
 returns-4 c =
-    let at-put-address = c.before.before in
-    let at-enum-told4 = at-put-address.before.before in
-    let at-start = at-enum-told4.before.before.before.before in
-    row Address _ at-start.args.width at-start.args.bytes.now at-put-address.put-address.ensures refl at-enum-told4.enum-told4.given.1
+    row Address _ c.args.width c.args.bytes.now c.put_address.ensures refl c.in-Address.is
 
-pub put-value-spec : {M : Type 1} → statement M
-put-value-spec = tie.close (tie.spec (search rules) (search rules) (search rules) (search rules) (search rules)
-    (search rules) (search rules) (search rules) (search rules) (search rules) (search rules) returns
-    (search rules) returns-2 (search rules) returns-3 (search rules) returns-4)
+pub put_value_spec : {M : Type 1} → statement M
+put_value_spec = tie.close (tie.spec (search rules) (search rules) (search rules) (search rules) (search rules)
+    (search rules) (search rules) (search rules) (search rules) (search rules) (search rules) returns (search rules)
+    returns-2 (search rules) returns-3 (search rules) returns-4)
