@@ -3,7 +3,10 @@
 // Length and its family; or `refused` with the number of the refusal and its place, which is 0. `find ADDRESS FAMILY` looks for
 // that family alone, and `find ADDRESS FAMILY bytes` writes the table's bytes instead, and a refusal to standard error. Where
 // there is no table and the dump begins with zero bytes only, that is said on standard error.
+#![tactic(auto)]
+
 ghost use Rattle.std.specs.Prelude.{◌≡◌, ℕ, ◌+◌, ◌^◌, ◌≤◌, ◌<◌, length};
+ghost use Rattle.io.specs.Counts.{IsPrefixLen};
 ghost use Rattle.octets.specs.Counting.{first};
 ghost use Rattle.octets.specs.Octets.{byte, differs};
 
@@ -11,6 +14,7 @@ use notation::number::{Number, read_number};
 use octets::read::part;
 use refusal_text::{LINE_SIZE, put_refusal};
 use scan::{Family, Scanned, scan_for, table_for};
+use std::env::Env;
 use table_header::verdict::Refusal;
 use text::split::same;
 
@@ -206,33 +210,44 @@ fn family_named(name: &[u8]) -> u8 {
     UNKNOWN
 }
 
-fn wanted_family() -> u8 {
+// Puts the program's argument k at the start of buf and answers its length, or 0 where it is missing or longer than buf. One
+// that is too long leaves its first bytes in buf.
+fn argument(rt: &impl Env, k: usize, buf: &mut [u8]) -> usize
+    ensures { IsPrefixLen result buf.new }
+{
+    match rt.arg(k, buf) {
+        Ok(n) => n,
+        Err(_) => 0,
+    }
+}
+
+fn wanted_family(rt: &impl Env) -> u8 {
     let mut text = [0u8; 32];
-    let n = os::arg(2, &mut text);
+    let n = argument(rt, 2, &mut text);
     family_named(part(&text, 0, n))
 }
 
-fn wants_bytes() -> bool {
+fn wants_bytes(rt: &impl Env) -> bool {
     let mut text = [0u8; 32];
-    let n = os::arg(3, &mut text);
+    let n = argument(rt, 3, &mut text);
     same(part(&text, 0, n), b"bytes")
 }
 
 // Finds what the arguments behind the address ask for.
-fn find_wanted(address: u64) {
-    let wanted = wanted_family();
+fn find_wanted(rt: &impl Env, address: u64) {
+    let wanted = wanted_family(rt);
     if wanted == UNKNOWN {
         io::write_all(STDERR, b"find: the families are ibft, abft and sbft\n");
         return;
     }
-    find(wanted, address, wants_bytes());
+    find(wanted, address, wants_bytes(rt));
 }
 
-fn main() {
+fn main(rt: HostRuntime) {
     let mut text = [0u8; 32];
-    let n = os::arg(1, &mut text);
+    let n = argument(&rt, 1, &mut text);
     match read_number(0xFFFFFFFFFFFFFFFF, part(&text, 0, n)) {
-        Number::Value(address) => find_wanted(address),
+        Number::Value(address) => find_wanted(&rt, address),
         Number::Bad => {
             io::write_all(
                 STDERR,

@@ -8,17 +8,13 @@ use Rattle.scan.specs.Scan.{ibft}
 use Rattle.find.proofs.answer.Statement.{statement}
 use Rattle.find.proofs.answer.Tie as tie
 
-tell-zeros-requires : tie.Need-tell-zeros-requires
+tell-zeros-requires : tie.Need-tell_zeros-requires
 tell-zeros-requires c κs =
-    let at-if2 = c.before.before.before in
-    let at-scan-for = at-if2.before.before in
-    let at-start = at-scan-for.before.before.before in
-    let a = at-start.args in
-    let scan = at-scan-for.scan-for in
-    let within : (ibft.high < a.address + length a.memory.now → ⊥) = λ h. at-if2.if2.false (scan.ensures.above.1 h) in
+    let a = c.args in
+    let scan = c.scan_for-scanned in
+    let within : (ibft.high < a.address + length a.memory.now → ⊥) = λ h. c.if-scanned-eq1.false (scan.ensures.above.1 h) in
     omega (arith, within)
 
-pub answer-spec : {M : Type 1} → statement M
-answer-spec =
-    tie.close
-    (tie.spec (search rules) (search rules) (search rules) (search rules) (search rules) (search rules) tell-zeros-requires (search rules))
+pub answer_spec : {M : Type 1} → statement M
+answer_spec = tie.close (tie.spec (search rules) (search rules) (search rules) (search rules) (search rules)
+    (search rules) tell-zeros-requires (search rules))

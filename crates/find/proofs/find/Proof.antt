@@ -10,7 +10,7 @@ use Rattle.find.proofs.find.Tie as tie
 counted : (n : ℕ) → n ≡ length (replicate {A = ℕ} n 0)
 counted n = sym (length-replicate {A = ℕ} n 0)
 
-lent : tie.Need-slice-aggregate-find-in
+lent : tie.Need-slice_bounds-find_in-end
 lent c = counted 1048577
 
 pub find_spec : {M : Type 1} → statement M
