@@ -1,6 +1,8 @@
 // The bench program: reads a table, up to 16,384 bytes of standard input, and prints what it says where the check of its family
 // accepts it, or the one refusal that applies. Numbers are decimal; a MAC address is written as usual. What has the signature
 // of no family is checked as an iBFT.
+#![tactic(auto)]
+
 use abft::fields::Abft;
 use abft::reading::read_abft;
 use ibft_layout::control::Control;

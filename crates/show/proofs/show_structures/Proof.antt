@@ -5,12 +5,12 @@ use borrow.Author.Rules.{rules}
 use Rattle.show.proofs.show_structures.Statement.{statement}
 use Rattle.show.proofs.show_structures.Tie as tie
 
-abbrev invariant-loop : tie.invariant-loop
+abbrev invariant-loop : tie.invariant-loop-slot
 invariant-loop t slot₀ slot = slot ≤ slot_count
 
-abbrev decreases-loop : tie.decreases-loop
+abbrev decreases-loop : tie.decreases-loop-slot
 decreases-loop t slot₀ slot = slot_count - slot
 
-pub show-structures-spec : {M : Type 1} → statement M
-show-structures-spec =
-    tie.close (tie.spec invariant-loop decreases-loop (search rules) (search rules) (search rules) (search rules) (search rules) (search rules))
+pub show_structures_spec : {M : Type 1} → statement M
+show_structures_spec = tie.close (tie.spec invariant-loop decreases-loop (search rules) (search rules) (search rules)
+    (search rules) (search rules) (search rules))
