@@ -1,5 +1,7 @@
 // The scans of RULES.md, Worked cases, that are run and compared, and the edges of its rules: a line for each, with what the
 // scan answers and how many bytes the view shows. Numbers are decimal: 524288 is 0x80000, 1048576 is 0x100000.
+#![tactic(auto)]
+
 use octets::read::part;
 use octets::sum::checksum;
 use octets::write::{put_byte, put_bytes, put_u32};
