@@ -1,4 +1,6 @@
 // The calls for C boot firmware: numbers and byte ranges in, one 64-bit number out. include/bootfw.h declares them.
+#![tactic(auto)]
+
 ghost use Rattle.std.specs.Prelude.{◌≡◌, ◌<◌, ◌^◌, length};
 ghost use Rattle.scan.specs.Scan.{ibft, abft, sbft};
 ghost use Rattle.table_header.specs.Verdict.{refusal_of};

@@ -1,5 +1,7 @@
 // A difference between two tables as a line of text, in the words of the record (docs/RECORD-FORMAT.md): what differs, by name,
 // and what each table has there. The public call has no `requires`.
+#![tactic(auto)]
+
 ghost use Rattle.std.specs.Prelude.{◌≡◌, ◌-◌};
 ghost use Rattle.text.specs.Put.{Puts};
 ghost use Rattle.difference_text.specs.DifferenceText.{field_number, field_at, hidden_name, with_value, both_values, only_in, shown_text};

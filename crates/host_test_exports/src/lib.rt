@@ -1,5 +1,7 @@
 // Calls of the library that tests/host measures and compares, and that C firmware has no use for. They are no part of
 // libbootfw.a. A reading answers with one number, and lays its fields out in the bytes that the caller lends.
+#![tactic(auto)]
+
 mod abft_reading;
 mod comparing;
 mod header;

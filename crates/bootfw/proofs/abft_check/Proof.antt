@@ -5,13 +5,13 @@ use borrow.Author.Rules.{rules}
 use Rattle.bootfw.proofs.abft_check.Statement.{statement}
 use Rattle.bootfw.proofs.abft_check.Tie as tie
 
-check-answer-requires : tie.Need-check-answer-requires
+check-answer-requires : tie.Need-check_answer-requires
 check-answer-requires c κs = check-below _ _ c.check.ensures.verdict-is
 
 returns : tie.Need-returns
 returns c =
-    let check = c.before.check in
-    record { answer = rw (← check.ensures.verdict-is) c.check-answer.ensures; promise = rw check.ensures.verdict-is at check.ensures }
+    let check = c.check in
+    record { answer = rw (← check.ensures.verdict-is) c.check_answer.ensures; promise = rw check.ensures.verdict-is at check.ensures }
 
-pub abft-check-spec : {M : Type 1} → statement M
-abft-check-spec = tie.close (tie.spec (search rules) check-answer-requires returns)
+pub abft_check_spec : {M : Type 1} → statement M
+abft_check_spec = tie.close (tie.spec (search rules) check-answer-requires returns)

@@ -4,7 +4,7 @@ use Rattle.bootfw.proofs.abft_scan.Statement.{statement}
 use Rattle.bootfw.proofs.abft_scan.Tie as tie
 
 returns : tie.Need-returns
-returns c = c.scan-answer.ensures
+returns c = c.scan_answer.ensures
 
-pub abft-scan-spec : {M : Type 1} → statement M
-abft-scan-spec = tie.close (tie.spec (search rules) returns)
+pub abft_scan_spec : {M : Type 1} → statement M
+abft_scan_spec = tie.close (tie.spec (search rules) returns)

@@ -4,10 +4,10 @@ use Rattle.bootfw.proofs.check_answer.Statement.{statement}
 use Rattle.bootfw.proofs.check_answer.Tie as tie
 
 packed-requires : tie.Need-packed-requires
-packed-requires c κs = rw c.before.refusal-of.ensures c.before.before.requires
+packed-requires c κs = rw c.refusal_of-refusal.ensures c.requires
 
 returns : tie.Need-returns
-returns c = rw (← c.before.before.refusal-of.ensures) c.packed.ensures
+returns c = rw (← c.refusal_of-refusal.ensures) c.packed.ensures
 
-pub check-answer-spec : {M : Type 1} → statement M
-check-answer-spec = tie.close (tie.spec (search rules) (search rules) packed-requires returns)
+pub check_answer_spec : {M : Type 1} → statement M
+check_answer_spec = tie.close (tie.spec (search rules) (search rules) packed-requires returns)

@@ -17,16 +17,14 @@ placed : (r s : List ℕ) (n : ℕ) (built : Built) → built ≡ answer_of r s 
 placed r s n built is = omega (arith, answer-placed r s n, ap (λ (b : Built). b.refusal.place) is)
 
 packed-requires : tie.Need-packed-requires
-packed-requires c κs = omega (arith, placed _ _ _ _ c.before.before.before.build.ensures.answer-is)
+packed-requires c κs = omega (arith, placed _ _ _ _ c.build-built.ensures.answer-is)
 
 returns : tie.Need-returns
 returns c =
-    let at-build = c.before.before.before.before in
-    let at-start = at-build.before.before.before.before.before in
-    let a = at-start.args in
-    let built = at-build.build in
+    let a = c.args in
+    let built = c.build-built in
     let is : built.result ≡ answer_of a.range.now a.strings.now (length a.room.now) = built.ensures.answer-is in
     record { answer = rw (← is) c.packed.ensures; promise = rw (← is) built.ensures }
 
-pub ibft-build-spec : {M : Type 1} → statement M
-ibft-build-spec = tie.close (tie.spec (search rules) packed-requires (search rules) returns)
+pub ibft_build_spec : {M : Type 1} → statement M
+ibft_build_spec = tie.close (tie.spec (search rules) packed-requires (search rules) returns)

@@ -8,15 +8,14 @@ use borrow.Author.Rules.{rules}
 use Rattle.bootfw.proofs.ibft_check.Statement.{statement}
 use Rattle.bootfw.proofs.ibft_check.Tie as tie
 
-check-answer-requires : tie.Need-check-answer-requires
+check-answer-requires : tie.Need-check_answer-requires
 check-answer-requires c κs =
-    let s = c.before in
-    refusal-below _ (λ r e. place-below _ (λ i. omega (arith, s.shared-slice-known.given i)) r (sym c.check.ensures.verdict-is ∙ e))
+    refusal-below _ (λ r e. place-below _ (λ i. omega (arith, c.shared_slice_known-1.given i)) r (sym c.check.ensures.verdict-is ∙ e))
 
 returns : tie.Need-returns
 returns c =
-    let check = c.before.check in
-    record { answer = rw (← check.ensures.verdict-is) c.check-answer.ensures; promise = rw check.ensures.verdict-is at check.ensures }
+    let check = c.check in
+    record { answer = rw (← check.ensures.verdict-is) c.check_answer.ensures; promise = rw check.ensures.verdict-is at check.ensures }
 
-pub ibft-check-spec : {M : Type 1} → statement M
-ibft-check-spec = tie.close (tie.spec (search rules) check-answer-requires returns)
+pub ibft_check_spec : {M : Type 1} → statement M
+ibft_check_spec = tie.close (tie.spec (search rules) check-answer-requires returns)

@@ -20,21 +20,16 @@ placed t n built bytes is = omega (arith, rebuild-placed t n bytes, ap (λ (b : 
 
 packed-requires : tie.Need-packed-requires
 packed-requires c κs =
-    let at-rebuild = c.before.before.before.before in
-    let at-shared-slice-known = at-rebuild.before.before.before in
-    let bytes = at-shared-slice-known.shared-slice-known.given in
-    omega (arith, placed _ _ _ (λ i. omega (arith, bytes i)) at-rebuild.rebuild.ensures.answer-is)
+    let bytes = c.shared_slice_known-1.given in
+    omega (arith, placed _ _ _ (λ i. omega (arith, bytes i)) c.rebuild-rebuilt.ensures.answer-is)
 
 returns : tie.Need-returns
 returns c =
-    let at-upper-of = c.before in
-    let at-rebuild = at-upper-of.before.before.before.before in
-    let at-start = at-rebuild.before.before.before.before in
-    let a = at-start.args in
-    let rebuilt = at-rebuild.rebuild in
+    let a = c.args in
+    let rebuilt = c.rebuild-rebuilt in
     let is : rebuilt.result ≡ rebuild_answer a.table.now (length a.room.now) = rebuilt.ensures.answer-is in
-    let upper : at-upper-of.upper_of.result ≡ upper_of rebuilt.result.refusal rebuilt.result.length = at-upper-of.upper_of.ensures in
+    let upper : c.upper_of-upper.result ≡ upper_of rebuilt.result.refusal rebuilt.result.length = c.upper_of-upper.ensures in
     record { answer = rw (← is, ← upper) c.packed.ensures; promise = rw (← is) rebuilt.ensures }
 
-pub ibft-rebuild-spec : {M : Type 1} → statement M
-ibft-rebuild-spec = tie.close (tie.spec (search rules) (search rules) packed-requires (search rules) returns)
+pub ibft_rebuild_spec : {M : Type 1} → statement M
+ibft_rebuild_spec = tie.close (tie.spec (search rules) (search rules) packed-requires (search rules) returns)

@@ -4,7 +4,7 @@ use Rattle.bootfw.proofs.ibft_scan.Statement.{statement}
 use Rattle.bootfw.proofs.ibft_scan.Tie as tie
 
 returns : tie.Need-returns
-returns c = c.scan-answer.ensures
+returns c = c.scan_answer.ensures
 
-pub ibft-scan-spec : {M : Type 1} → statement M
-ibft-scan-spec = tie.close (tie.spec (search rules) returns)
+pub ibft_scan_spec : {M : Type 1} → statement M
+ibft_scan_spec = tie.close (tie.spec (search rules) returns)

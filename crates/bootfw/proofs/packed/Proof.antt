@@ -8,5 +8,5 @@ use Rattle.bootfw.proofs.packed.Tie as tie
 returns : tie.Need-returns
 returns c = packs _ _ _ _ (search rules) (search rules) refl
 
-pub packed-spec : {M : Type 1} → statement M
-packed-spec = tie.close (tie.spec (search rules) (search rules) (search rules) (search rules) returns)
+pub packed_spec : {M : Type 1} → statement M
+packed_spec = tie.close (tie.spec (search rules) (search rules) (search rules) (search rules) returns)

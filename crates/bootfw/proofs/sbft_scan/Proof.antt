@@ -4,7 +4,7 @@ use Rattle.bootfw.proofs.sbft_scan.Statement.{statement}
 use Rattle.bootfw.proofs.sbft_scan.Tie as tie
 
 returns : tie.Need-returns
-returns c = c.scan-answer.ensures
+returns c = c.scan_answer.ensures
 
-pub sbft-scan-spec : {M : Type 1} → statement M
-sbft-scan-spec = tie.close (tie.spec (search rules) returns)
+pub sbft_scan_spec : {M : Type 1} → statement M
+sbft_scan_spec = tie.close (tie.spec (search rules) returns)

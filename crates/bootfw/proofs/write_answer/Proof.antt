@@ -6,5 +6,5 @@ use Rattle.bootfw.proofs.write_answer.Tie as tie
 returns : tie.Need-returns
 returns c = c.packed.ensures
 
-pub write-answer-spec : {M : Type 1} → statement M
-write-answer-spec = tie.close (tie.spec (search rules) returns)
+pub write_answer_spec : {M : Type 1} → statement M
+write_answer_spec = tie.close (tie.spec (search rules) returns)

@@ -14,45 +14,36 @@ use Rattle.difference_text.specs.DifferenceText.{field_number}
 use Rattle.difference_text.proofs.field_number.Statement.{statement}
 use Rattle.difference_text.proofs.field_number.Tie as tie
 
-abbrev invariant-loop : tie.invariant-loop
+abbrev invariant-loop : tie.invariant-loop-n
 invariant-loop kind at count n₀ n = (n ≤ count) × ((j : ℕ) → j < n → eqb (field_of kind j).at at ≡ false)
 
-abbrev decreases-loop : tie.decreases-loop
+abbrev decreases-loop : tie.decreases-loop-n
 decreases-loop kind at count n₀ n = count - n
 
-loop-holds : tie.Need-loop-init invariant-loop decreases-loop
+loop-holds : tie.Need-loop-n-init invariant-loop decreases-loop
 loop-holds c = (search rules, λ j l. absurd (omega arith))
 
-returns : tie.Need-returns invariant-loop decreases-loop
+returns : tie.Need-returns-then-field_at-at invariant-loop decreases-loop
 unfolding field_number
 returns c =
-    let at-field-at = c.before.before in
-    let at-loop = at-field-at.before.before in
-    let at-field-count = at-loop.before in
-    let at-start = at-field-count.before in
-    let a = at-start.args in
-    let n = at-loop.loop.n in
-    let at = ap (λ (f : FieldLayout). f.at) at-field-at.field_at.ensures in
-    sym (first-is (field_count a.kind) _ n (omega (arith, at-field-count.field-count.ensures.0)) at-loop.loop.invariant.1
-    (λ l. eq-eqb _ a.at (sym at ∙ c.if1.true)))
+    let a = c.args in
+    let n = c.loop-n.n in
+    let at = ap (λ (f : FieldLayout). f.at) c.field_at.ensures in
+    sym (first-is (field_count a.kind) _ n (omega (arith, c.field_count-count.ensures.0)) c.loop-n.invariant.1
+    (λ l. eq-eqb _ a.at (sym at ∙ c.if-field_at-at.true)))
 
-loop-again : tie.Need-loop-preserved invariant-loop decreases-loop
+loop-again : tie.Need-loop-n-preserved invariant-loop decreases-loop
 loop-again c =
-    let at-field-at = c.before.before in
-    let at-loop = at-field-at.before.before in
-    let at-start = at-loop.before.before in
-    let a = at-start.args in
-    let at = ap (λ (f : FieldLayout). f.at) at-field-at.field_at.ensures in
-    (search rules, below_more _ _ at-loop.loop.invariant.1 (ne_eqb _ a.at (λ e. c.if1.false (at ∙ e))))
+    let a = c.args in
+    let at = ap (λ (f : FieldLayout). f.at) c.field_at.ensures in
+    (search rules, below_more _ _ c.loop-n.invariant.1 (ne_eqb _ a.at (λ e. c.if-field_at-at.false (at ∙ e))))
 
-returns-2 : tie.Need-returns-2 invariant-loop decreases-loop
+returns-2 : tie.Need-returns invariant-loop decreases-loop
 unfolding field_number
 returns-2 c =
-    let at-loop = c.before in
-    let at-field-count = at-loop.before in
-    let at-start = at-field-count.before in
-    sym (first-is (field_count at-start.args.kind) _ at-loop.loop.n (omega (arith, at-field-count.field-count.ensures.0)) at-loop.loop.invariant.1
-    (λ l. absurd (omega (arith, at-field-count.field-count.ensures.0))))
+    sym (first-is (field_count c.args.kind) _ c.loop-n.n (omega (arith, c.field_count-count.ensures.0)) c.loop-n.invariant.1
+    (λ l. absurd (omega (arith, c.field_count-count.ensures.0))))
 
-pub field-number-spec : {M : Type 1} → statement M
-field-number-spec = tie.close (tie.spec invariant-loop decreases-loop (search rules) loop-holds (search rules) returns (search rules) (search rules) loop-again returns-2)
+pub field_number_spec : {M : Type 1} → statement M
+field_number_spec = tie.close (tie.spec invariant-loop decreases-loop (search rules) loop-holds (search rules) returns
+    (search rules) (search rules) loop-again returns-2)

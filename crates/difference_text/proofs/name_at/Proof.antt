@@ -4,7 +4,7 @@ use Rattle.difference_text.proofs.name_at.Statement.{statement}
 use Rattle.difference_text.proofs.name_at.Tie as tie
 
 returns : tie.Need-returns
-returns c = rw c.field-number.ensures
+returns c = rw c.field_number.ensures
 
-pub name-at-spec : {M : Type 1} → statement M
-name-at-spec = tie.close (tie.spec (search rules) returns)
+pub name_at_spec : {M : Type 1} → statement M
+name_at_spec = tie.close (tie.spec (search rules) returns)

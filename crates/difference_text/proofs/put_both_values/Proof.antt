@@ -9,10 +9,7 @@ use Rattle.difference_text.proofs.put_both_values.Tie as tie
 returns : tie.Need-returns
 unfolding both_values tabulate
 returns c =
-    let at-put-value = c.before.before in
-    let at-put-text = at-put-value.before.before.before.before in
-    let at-put-with-value = at-put-text.before.before.before.before.before in
-    puts-append at-put-with-value.put-with-value.ensures (puts-append at-put-text.put-text.ensures at-put-value.put-value.ensures)
+    puts-append c.put_with_value-bar.ensures (puts-append c.put_text-value.ensures c.put_value.ensures)
 
-pub put-both-values-spec : {M : Type 1} → statement M
-put-both-values-spec = tie.close (tie.spec (search rules) (search rules) (search rules) (search rules) (search rules) returns)
+pub put_both_values_spec : {M : Type 1} → statement M
+put_both_values_spec = tie.close (tie.spec (search rules) (search rules) (search rules) (search rules) returns)

@@ -5,29 +5,19 @@ use borrow.Author.Rules.{rules}
 use Rattle.difference_text.proofs.put_entry_line.Statement.{statement}
 use Rattle.difference_text.proofs.put_entry_line.Tie as tie
 
-returns : tie.Need-returns
+returns : tie.Need-returns-then-r-eq0
 returns c =
-    let at-put-held-line = c.before.before in
-    let at_part = at-put-held-line.before.before in
-    let at-if1 = at_part.before.before.before in
-    puts-same at-put-held-line.put-held-line.ensures (entry-left _ _ _ _ _ _ at-if1.if1.true at_part.part.ensures.bytes)
+    puts-same c.put_held_line.ensures (entry-left _ _ _ _ _ _ c.if-r-eq0.true c.part-bytes.ensures.bytes)
 
-returns-2 : tie.Need-returns-2
+returns-2 : tie.Need-returns-then-l-eq0
 returns-2 c =
-    let at-put-held-line2 = c.before.before in
-    let at-part2 = at-put-held-line2.before.before in
-    let at-if2 = at-part2.before.before.before in
-    let at-if1 = at-if2.before.before in
-    puts-same at-put-held-line2.put-held-line2.ensures (entry-right _ _ _ _ _ _ at-if1.if1.false at-if2.if2.true at-part2.part2.ensures.bytes)
+    puts-same c.put_held_line-then-l-eq0.ensures (entry-right _ _ _ _ _ _ c.if-r-eq0.false c.if-l-eq0.true c.part-bytes-then-l-eq0.ensures.bytes)
 
-returns-3 : tie.Need-returns-3
+returns-3 : tie.Need-returns
 returns-3 c =
-    let at-put-differs-line = c.before.before in
-    let at-if2 = at-put-differs-line.before.before in
-    let at-if1 = at-if2.before.before in
-    puts-same at-put-differs-line.put-differs-line.ensures (entry-both _ _ _ _ _ at-if1.if1.false at-if2.if2.false)
+    puts-same c.put_differs_line.ensures (entry-both _ _ _ _ _ c.if-r-eq0.false c.if-l-eq0.false)
 
-pub put-entry-line-spec : {M : Type 1} → statement M
-put-entry-line-spec = tie.close (tie.spec (search rules) (search rules) (search rules) (search rules) (search rules) returns
-    (search rules) (search rules) (search rules) (search rules) (search rules) returns-2 (search rules)
+pub put_entry_line_spec : {M : Type 1} → statement M
+put_entry_line_spec = tie.close (tie.spec (search rules) (search rules) (search rules) (search rules) (search rules)
+    returns (search rules) (search rules) (search rules) (search rules) (search rules) returns-2 (search rules)
     (search rules) returns-3)

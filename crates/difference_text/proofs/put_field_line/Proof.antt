@@ -7,13 +7,9 @@ use Rattle.difference_text.proofs.put_field_line.Tie as tie
 
 returns : tie.Need-returns
 returns c =
-    let at-put-char = c.before.before in
-    let at-put-both-values = at-put-char.before.before.before.before in
-    let at-part2 = at-put-both-values.before.before in
-    let at_part = at-part2.before.before.before in
-    puts-same (puts-append at-put-both-values.put-both-values.ensures at-put-char.put-char.ensures)
-    (field_told _ _ _ _ _ _ at_part.part.ensures.bytes at-part2.part2.ensures.bytes)
+    puts-same (puts-append c.put_both_values-end.ensures c.put_char.ensures)
+    (field_told _ _ _ _ _ _ c.part-in_left.ensures.bytes c.part-in_right.ensures.bytes)
 
-pub put-field-line-spec : {M : Type 1} → statement M
-put-field-line-spec = tie.close (tie.spec (search rules) (search rules) (search rules) (search rules) (search rules)
+pub put_field_line_spec : {M : Type 1} → statement M
+put_field_line_spec = tie.close (tie.spec (search rules) (search rules) (search rules) (search rules) (search rules)
     (search rules) (search rules) (search rules) (search rules) returns)

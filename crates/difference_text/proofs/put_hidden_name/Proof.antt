@@ -9,9 +9,7 @@ use Rattle.difference_text.proofs.put_hidden_name.Tie as tie
 returns : tie.Need-returns
 unfolding hidden_name tabulate
 returns c =
-    let at-put-name = c.before.before in
-    let at-put-text = at-put-name.before.before.before.before in
-    puts-append at-put-text.put-text.ensures at-put-name.put-name.ensures
+    puts-append c.put_text-name.ensures c.put_name.ensures
 
-pub put-hidden-name-spec : {M : Type 1} → statement M
-put-hidden-name-spec = tie.close (tie.spec (search rules) (search rules) (search rules) (search rules) returns)
+pub put_hidden_name_spec : {M : Type 1} → statement M
+put_hidden_name_spec = tie.close (tie.spec (search rules) (search rules) (search rules) returns)

@@ -8,19 +8,15 @@ use borrow.Author.Rules.{rules}
 use Rattle.difference_text.proofs.put_only_in.Statement.{statement}
 use Rattle.difference_text.proofs.put_only_in.Tie as tie
 
-returns : tie.Need-returns
+returns : tie.Need-returns-then-right
 unfolding only_in tabulate
 returns c =
-    let at-put-text = c.before.before in
-    let at-if1 = at-put-text.before.before.before in
-    puts-same at-put-text.put-text.ensures (sym (ap (λ (b : Bool). cond b only_right only_left) at-if1.if1.true))
+    puts-same c.put_text.ensures (sym (ap (λ (b : Bool). cond b only_right only_left) c.if-right.true))
 
-returns-2 : tie.Need-returns-2
+returns-2 : tie.Need-returns
 unfolding only_in tabulate
 returns-2 c =
-    let at-put-text2 = c.before.before in
-    let at-if1 = at-put-text2.before.before.before in
-    puts-same at-put-text2.put-text2.ensures (sym (ap (λ (b : Bool). cond b only_right only_left) at-if1.if1.false))
+    puts-same c.put_text-2.ensures (sym (ap (λ (b : Bool). cond b only_right only_left) c.if-right.false))
 
-pub put-only-in-spec : {M : Type 1} → statement M
-put-only-in-spec = tie.close (tie.spec (search rules) (search rules) (search rules) returns (search rules) (search rules) (search rules) returns-2)
+pub put_only_in_spec : {M : Type 1} → statement M
+put_only_in_spec = tie.close (tie.spec (search rules) (search rules) returns (search rules) (search rules) returns-2)

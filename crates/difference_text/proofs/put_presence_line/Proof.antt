@@ -12,13 +12,9 @@ use Rattle.difference_text.proofs.put_presence_line.Tie as tie
 returns : tie.Need-returns
 unfolding presence_line
 returns c =
-    let at-put-only-in = c.before.before in
-    let at-put-name = at-put-only-in.before.before.before.before.before in
-    let at-field-count = at-put-name.before.before in
-    let at-start = at-field-count.before.before.before in
-    let a = at-start.args in
-    puts-same (puts-append at-put-name.put-name.ensures at-put-only-in.put-only-in.ensures)
-    (ap (λ (n : ℕ). name_of a.id a.index n ++ only_in (is_absent a.reading.left)) at-field-count.field-count.ensures.0)
+    let a = c.args in
+    puts-same (puts-append c.put_name-end.ensures c.put_only_in.ensures)
+    (ap (λ (n : ℕ). name_of a.id a.index n ++ only_in (is_absent a.reading.left)) c.field_count.ensures.0)
 
-pub put-presence-line-spec : {M : Type 1} → statement M
-put-presence-line-spec = tie.close (tie.spec (search rules) (search rules) (search rules) (search rules) returns)
+pub put_presence_line_spec : {M : Type 1} → statement M
+put_presence_line_spec = tie.close (tie.spec (search rules) (search rules) (search rules) (search rules) returns)

@@ -8,10 +8,7 @@ use Rattle.difference_text.proofs.put_with_value.Tie as tie
 returns : tie.Need-returns
 unfolding with_value
 returns c =
-    let at-put-value = c.before.before in
-    let at-put-char = at-put-value.before.before.before.before in
-    let at-put-name = at-put-char.before.before.before.before in
-    puts-append at-put-name.put-name.ensures (puts-append at-put-char.put-char.ensures at-put-value.put-value.ensures)
+    puts-append c.put_name-space.ensures (puts-append c.put_char-value.ensures c.put_value.ensures)
 
-pub put-with-value-spec : {M : Type 1} → statement M
-put-with-value-spec = tie.close (tie.spec (search rules) (search rules) (search rules) (search rules) returns)
+pub put_with_value_spec : {M : Type 1} → statement M
+put_with_value_spec = tie.close (tie.spec (search rules) (search rules) (search rules) (search rules) returns)

@@ -6,5 +6,5 @@ use Rattle.host_test_exports.proofs.abft_reading.test_abft.Tie as tie
 returns : tie.Need-returns
 returns c = (cc, cc)
 
-pub test-abft-spec : {M : Type 1} → statement M
-test-abft-spec = tie.close (tie.spec (search rules) (search rules) (search rules) (search rules) returns)
+pub test_abft_spec : {M : Type 1} → statement M
+test_abft_spec = tie.close (tie.spec (search rules) (search rules) (search rules) (search rules) returns)

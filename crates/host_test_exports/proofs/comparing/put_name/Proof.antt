@@ -7,12 +7,8 @@ use Rattle.host_test_exports.proofs.comparing.put_name.Tie as tie
 
 returns : tie.Need-returns
 returns c =
-    let at = c.before.before in
-    let index = at.before.before.before.before in
-    let id = index.before.before.before.before in
-    let number = id.before.before.before.before in
-    behind (puts refl number.put_byte.ensures)
-    (behind (puts refl id.put-byte2.ensures) (behind (puts refl index.put-byte3.ensures) (puts refl at.put-u16.ensures)))
+    behind (puts refl c.put_byte.ensures)
+    (behind (puts refl c.put_byte-2.ensures) (behind (puts refl c.put_byte-3.ensures) (puts refl c.put_u16.ensures)))
 
-pub put-name-spec : {M : Type 1} → statement M
-put-name-spec = tie.close (tie.spec (search rules) (search rules) (search rules) (search rules) (search rules) returns)
+pub put_name_spec : {M : Type 1} → statement M
+put_name_spec = tie.close (tie.spec (search rules) (search rules) (search rules) (search rules) (search rules) returns)

@@ -7,9 +7,7 @@ use Rattle.host_test_exports.proofs.comparing.put_stretch.Tie as tie
 
 returns : tie.Need-returns
 returns c =
-    let length = c.before.before in
-    let start = length.before.before.before.before in
-    behind (puts refl start.put-u32.ensures) (puts refl length.put-u16.ensures)
+    behind (puts refl c.put_u32.ensures) (puts refl c.put_u16.ensures)
 
-pub put-stretch-spec : {M : Type 1} → statement M
-put-stretch-spec = tie.close (tie.spec (search rules) (search rules) (search rules) (search rules) returns)
+pub put_stretch_spec : {M : Type 1} → statement M
+put_stretch_spec = tie.close (tie.spec (search rules) (search rules) (search rules) (search rules) returns)

@@ -4,57 +4,43 @@ use borrow.Author.Rules.{rules}
 use Rattle.host_test_exports.proofs.comparing.put_what.Statement.{statement}
 use Rattle.host_test_exports.proofs.comparing.put_what.Tie as tie
 
-returns : tie.Need-returns
+returns : tie.Need-returns-in-Nothing
 unfolding laid_what
 returns c =
-    let at-put-name = c.before.before in
-    let at-enum-told = at-put-name.before.before in
-    rw at-enum-told.enum_told.given.1 at-put-name.put-name.ensures
+    rw c.in-Nothing.is c.put_name.ensures
 
-returns-2 : tie.Need-returns-2
+returns-2 : tie.Need-returns-in-OemId
 unfolding laid_what
 returns-2 c =
-    let at-put-name2 = c.before.before in
-    let at-enum-told2 = at-put-name2.before.before in
-    rw at-enum-told2.enum-told2.given.1 at-put-name2.put-name2.ensures
+    rw c.in-OemId.is c.put_name-in-OemId.ensures
 
-returns-3 : tie.Need-returns-3
+returns-3 : tie.Need-returns-in-OemTableId
 unfolding laid_what
 returns-3 c =
-    let at-put-name3 = c.before.before in
-    let at-enum-told3 = at-put-name3.before.before in
-    rw at-enum-told3.enum-told3.given.1 at-put-name3.put-name3.ensures
+    rw c.in-OemTableId.is c.put_name-in-OemTableId.ensures
 
-returns-4 : tie.Need-returns-4
+returns-4 : tie.Need-returns-in-ControlFlags
 unfolding laid_what
 returns-4 c =
-    let at-put-name4 = c.before.before in
-    let at-enum-told4 = at-put-name4.before.before in
-    rw at-enum-told4.enum-told4.given.1 at-put-name4.put-name4.ensures
+    rw c.in-ControlFlags.is c.put_name-in-ControlFlags.ensures
 
-returns-5 : tie.Need-returns-5
+returns-5 : tie.Need-returns-in-Presence
 unfolding laid_what
 returns-5 c =
-    let at-put-name5 = c.before.before in
-    let at-difference = at-put-name5.before.before.before in
-    rw at-difference.difference.given.1 at-put-name5.put-name5.ensures
+    rw c.in-Presence.is c.put_name-in-Presence.ensures
 
-returns-6 : tie.Need-returns-6
+returns-6 : tie.Need-returns-in-Field
 unfolding laid_what
 returns-6 c =
-    let at-put-name6 = c.before.before in
-    let at-difference2 = at-put-name6.before.before.before in
-    rw at-difference2.difference2.given.1 at-put-name6.put-name6.ensures
+    rw c.in-Field.is c.put_name-in-Field.ensures
 
-returns-7 : tie.Need-returns-7
+returns-7 : tie.Need-returns-in-Entry
 unfolding laid_what
 returns-7 c =
-    let at-put-name7 = c.before.before in
-    let at-difference3 = at-put-name7.before.before.before in
-    rw at-difference3.difference3.given.1 at-put-name7.put-name7.ensures
+    rw c.in-Entry.is c.put_name-in-Entry.ensures
 
-pub put-what-spec : {M : Type 1} → statement M
-put-what-spec = tie.close (tie.spec (search rules) (search rules) (search rules) (search rules) (search rules)
-    (search rules) (search rules) (search rules) (search rules) (search rules) (search rules) (search rules) (search rules)
-    (search rules) (search rules) returns (search rules) returns-2 (search rules) returns-3 (search rules) returns-4
-    (search rules) returns-5 (search rules) returns-6 (search rules) returns-7)
+pub put_what_spec : {M : Type 1} → statement M
+put_what_spec = tie.close (tie.spec (search rules) (search rules) (search rules) (search rules) (search rules)
+    (search rules) (search rules) (search rules) (search rules) (search rules) (search rules) (search rules)
+    (search rules) (search rules) (search rules) returns (search rules) returns-2 (search rules) returns-3
+    (search rules) returns-4 (search rules) returns-5 (search rules) returns-6 (search rules) returns-7)

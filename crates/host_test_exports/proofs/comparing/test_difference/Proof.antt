@@ -6,5 +6,5 @@ use Rattle.host_test_exports.proofs.comparing.test_difference.Tie as tie
 returns : tie.Need-returns
 returns c = (cc, cc)
 
-pub test-difference-spec : {M : Type 1} → statement M
-test-difference-spec = tie.close (tie.spec (search rules) (search rules) (search rules) (search rules) returns)
+pub test_difference_spec : {M : Type 1} → statement M
+test_difference_spec = tie.close (tie.spec (search rules) (search rules) (search rules) (search rules) returns)

@@ -8,10 +8,8 @@ use Rattle.host_test_exports.proofs.comparing.test_difference_view.Tie as tie
 
 returns : tie.Need-returns
 returns c =
-    let at-put-bytes = c.before.before in
-    let at-difference-view = at-put-bytes.before.before in
-    let shown = at-difference-view.difference-view.ensures.view-is in
-    (ap length shown, at-put-bytes.put-bytes.ensures ∙ ap (write _ 0) shown)
+    let shown = c.difference_view-view.ensures.view-is in
+    (ap length shown, c.put_bytes.ensures ∙ ap (write _ 0) shown)
 
-pub test-difference-view-spec : {M : Type 1} → statement M
-test-difference-view-spec = tie.close (tie.spec (search rules) (search rules) (search rules) returns)
+pub test_difference_view_spec : {M : Type 1} → statement M
+test_difference_view_spec = tie.close (tie.spec (search rules) (search rules) (search rules) returns)

@@ -9,10 +9,7 @@ use Rattle.host_test_exports.proofs.header.put_header.Tie as tie
 returns : tie.Need-returns
 unfolding laid_header
 returns c =
-    let flags = c.before.before in
-    let table-id = flags.before.before.before.before in
-    let oem-id = table-id.before.before.before.before in
-    behind oem-id.put_six.ensures (behind table-id.put-eight.ensures (puts refl flags.put_byte.ensures))
+    behind c.put_six.ensures (behind c.put_eight.ensures (puts refl c.put_byte.ensures))
 
-pub put-header-spec : {M : Type 1} → statement M
-put-header-spec = tie.close (tie.spec (search rules) (search rules) (search rules) (search rules) returns)
+pub put_header_spec : {M : Type 1} → statement M
+put_header_spec = tie.close (tie.spec (search rules) (search rules) (search rules) (search rules) returns)

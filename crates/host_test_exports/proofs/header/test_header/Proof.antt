@@ -6,5 +6,5 @@ use Rattle.host_test_exports.proofs.header.test_header.Tie as tie
 returns : tie.Need-returns
 returns c = (cc, cc)
 
-pub test-header-spec : {M : Type 1} → statement M
-test-header-spec = tie.close (tie.spec (search rules) (search rules) (search rules) (search rules) returns)
+pub test_header_spec : {M : Type 1} → statement M
+test_header_spec = tie.close (tie.spec (search rules) (search rules) (search rules) (search rules) returns)

@@ -6,5 +6,5 @@ use Rattle.host_test_exports.proofs.initiator.test_initiator.Tie as tie
 returns : tie.Need-returns
 returns c = (cc, cc)
 
-pub test-initiator-spec : {M : Type 1} → statement M
-test-initiator-spec = tie.close (tie.spec (search rules) (search rules) (search rules) (search rules) returns)
+pub test_initiator_spec : {M : Type 1} → statement M
+test_initiator_spec = tie.close (tie.spec (search rules) (search rules) (search rules) (search rules) returns)

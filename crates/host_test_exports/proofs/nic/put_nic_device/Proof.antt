@@ -7,12 +7,9 @@ use Rattle.host_test_exports.proofs.nic.put_nic_device.Tie as tie
 
 returns : tie.Need-returns
 returns c =
-    let host = c.before.before in
-    let pci = host.before.before.before.before in
-    let mac = pci.before.before.before.before in
-    let vlan = mac.before.before.before.before in
-    behind (puts refl vlan.put-u16.ensures)
-    (behind mac.put_six.ensures (behind (puts refl pci.put-u162.ensures) host.put-text.ensures))
+    behind (puts refl c.put_u16.ensures)
+    (behind c.put_six.ensures (behind (puts refl c.put_u16-2.ensures) c.put_text.ensures))
 
-pub put-nic-device-spec : {M : Type 1} → statement M
-put-nic-device-spec = tie.close (tie.spec (search rules) (search rules) (search rules) (search rules) (search rules) returns)
+pub put_nic_device_spec : {M : Type 1} → statement M
+put_nic_device_spec = tie.close (tie.spec (search rules) (search rules) (search rules) (search rules) (search rules)
+    returns)

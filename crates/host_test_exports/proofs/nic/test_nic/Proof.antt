@@ -6,5 +6,5 @@ use Rattle.host_test_exports.proofs.nic.test_nic.Tie as tie
 returns : tie.Need-returns
 returns c = (cc, cc)
 
-pub test-nic-spec : {M : Type 1} → statement M
-test-nic-spec = tie.close (tie.spec (search rules) (search rules) (search rules) (search rules) returns)
+pub test_nic_spec : {M : Type 1} → statement M
+test_nic_spec = tie.close (tie.spec (search rules) (search rules) (search rules) (search rules) returns)

@@ -6,5 +6,5 @@ use Rattle.host_test_exports.proofs.nic.test_nic_index.Tie as tie
 returns : tie.Need-returns
 returns c = cc
 
-pub test-nic-index-spec : {M : Type 1} → statement M
-test-nic-index-spec = tie.close (tie.spec (search rules) returns)
+pub test_nic_index_spec : {M : Type 1} → statement M
+test_nic_index_spec = tie.close (tie.spec (search rules) returns)

@@ -6,5 +6,5 @@ use Rattle.host_test_exports.proofs.packed.test_entry.Tie as tie
 returns : tie.Need-returns
 returns c = cc
 
-pub test-entry-spec : {M : Type 1} → statement M
-test-entry-spec = tie.close (tie.spec (search rules) (search rules) returns)
+pub test_entry_spec : {M : Type 1} → statement M
+test_entry_spec = tie.close (tie.spec (search rules) (search rules) returns)

@@ -6,5 +6,6 @@ use Rattle.host_test_exports.proofs.packed.test_entry_place.Tie as tie
 returns : tie.Need-returns
 returns c = cc
 
-pub test-entry-place-spec : {M : Type 1} → statement M
-test-entry-place-spec = tie.close (tie.spec (search rules) (search rules) (search rules) (search rules) (search rules) returns)
+pub test_entry_place_spec : {M : Type 1} → statement M
+test_entry_place_spec = tie.close (tie.spec (search rules) (search rules) (search rules) (search rules) (search rules)
+    returns)

@@ -6,5 +6,5 @@ use Rattle.host_test_exports.proofs.packed.test_login_checksum.Tie as tie
 returns : tie.Need-returns
 returns c = cc
 
-pub test-login-checksum-spec : {M : Type 1} → statement M
-test-login-checksum-spec = tie.close (tie.spec (search rules) returns)
+pub test_login_checksum_spec : {M : Type 1} → statement M
+test_login_checksum_spec = tie.close (tie.spec (search rules) returns)

@@ -6,7 +6,7 @@ use Rattle.host_test_exports.proofs.packed.test_login_order.Tie as tie
 returns : tie.Need-returns
 returns c = cc
 
-pub test-login-order-spec : {M : Type 1} → statement M
-test-login-order-spec = tie.close (tie.spec (search rules) (search rules) (search rules) (search rules) (search rules)
+pub test_login_order_spec : {M : Type 1} → statement M
+test_login_order_spec = tie.close (tie.spec (search rules) (search rules) (search rules) (search rules) (search rules)
     (λ c. search rules) (search rules) (search rules) (search rules) (search rules) (λ c. search rules) (search rules)
     (search rules) (search rules) (search rules) returns)

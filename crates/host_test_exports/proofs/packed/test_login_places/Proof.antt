@@ -6,5 +6,5 @@ use Rattle.host_test_exports.proofs.packed.test_login_places.Tie as tie
 returns : tie.Need-returns
 returns c = cc
 
-pub test-login-places-spec : {M : Type 1} → statement M
-test-login-places-spec = tie.close (tie.spec (search rules) (λ c. search rules) (search rules) returns)
+pub test_login_places_spec : {M : Type 1} → statement M
+test_login_places_spec = tie.close (tie.spec (search rules) (λ c. search rules) (search rules) returns)

@@ -6,6 +6,6 @@ use Rattle.host_test_exports.proofs.packed.test_pci.Tie as tie
 returns : tie.Need-returns
 returns c = cc
 
-pub test-pci-spec : {M : Type 1} → statement M
-test-pci-spec = tie.close (tie.spec (search rules) (search rules) (search rules) (search rules) (search rules)
+pub test_pci_spec : {M : Type 1} → statement M
+test_pci_spec = tie.close (tie.spec (search rules) (search rules) (search rules) (search rules) (search rules)
     (search rules) (search rules) (search rules) returns)

@@ -6,6 +6,6 @@ use Rattle.host_test_exports.proofs.packed.test_structure.Tie as tie
 returns : tie.Need-returns
 returns c = cc
 
-pub test-structure-spec : {M : Type 1} → statement M
-test-structure-spec = tie.close (tie.spec (search rules) (search rules) (search rules) (search rules) (search rules)
+pub test_structure_spec : {M : Type 1} → statement M
+test_structure_spec = tie.close (tie.spec (search rules) (search rules) (search rules) (search rules) (search rules)
     (search rules) (search rules) (search rules) (search rules) (search rules) (search rules) returns)

@@ -6,5 +6,5 @@ use Rattle.host_test_exports.proofs.packed.test_structure_checksum.Tie as tie
 returns : tie.Need-returns
 returns c = cc
 
-pub test-structure-checksum-spec : {M : Type 1} → statement M
-test-structure-checksum-spec = tie.close (tie.spec (search rules) returns)
+pub test_structure_checksum_spec : {M : Type 1} → statement M
+test_structure_checksum_spec = tie.close (tie.spec (search rules) returns)

@@ -6,5 +6,5 @@ use Rattle.host_test_exports.proofs.packed.test_structure_index.Tie as tie
 returns : tie.Need-returns
 returns c = cc
 
-pub test-structure-index-spec : {M : Type 1} → statement M
-test-structure-index-spec = tie.close (tie.spec (search rules) returns)
+pub test_structure_index_spec : {M : Type 1} → statement M
+test_structure_index_spec = tie.close (tie.spec (search rules) returns)

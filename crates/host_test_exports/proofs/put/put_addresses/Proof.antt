@@ -6,9 +6,7 @@ use Rattle.host_test_exports.proofs.put.put_addresses.Tie as tie
 
 returns : tie.Need-returns
 returns c =
-    let second = c.before.before in
-    let first = second.before.before.before.before in
-    behind first.put-address.ensures second.put-address2.ensures
+    behind c.put_address.ensures c.put_address-2.ensures
 
-pub put-addresses-spec : {M : Type 1} → statement M
-put-addresses-spec = tie.close (tie.spec (search rules) (search rules) (search rules) (search rules) returns)
+pub put_addresses_spec : {M : Type 1} → statement M
+put_addresses_spec = tie.close (tie.spec (search rules) (search rules) (search rules) (search rules) returns)

@@ -7,9 +7,7 @@ use Rattle.host_test_exports.proofs.put.put_text.Tie as tie
 
 returns : tie.Need-returns
 returns c =
-    let offset = c.before.before in
-    let length = offset.before.before.before.before in
-    behind (puts refl length.put-u16.ensures) (puts refl offset.put-u162.ensures)
+    behind (puts refl c.put_u16.ensures) (puts refl c.put_u16-2.ensures)
 
-pub put-text-spec : {M : Type 1} → statement M
-put-text-spec = tie.close (tie.spec (search rules) (search rules) (search rules) (search rules) returns)
+pub put_text_spec : {M : Type 1} → statement M
+put_text_spec = tie.close (tie.spec (search rules) (search rules) (search rules) (search rules) returns)

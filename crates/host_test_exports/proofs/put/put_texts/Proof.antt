@@ -6,9 +6,7 @@ use Rattle.host_test_exports.proofs.put.put_texts.Tie as tie
 
 returns : tie.Need-returns
 returns c =
-    let second = c.before.before in
-    let first = second.before.before.before.before in
-    behind first.put-text.ensures second.put-text2.ensures
+    behind c.put_text.ensures c.put_text-2.ensures
 
-pub put-texts-spec : {M : Type 1} → statement M
-put-texts-spec = tie.close (tie.spec (search rules) (search rules) (search rules) (search rules) returns)
+pub put_texts_spec : {M : Type 1} → statement M
+put_texts_spec = tie.close (tie.spec (search rules) (search rules) (search rules) (search rules) returns)

@@ -9,12 +9,9 @@ use Rattle.host_test_exports.proofs.sbft_readings.put_ib.Tie as tie
 returns : tie.Need-returns
 unfolding laid_ib
 returns c =
-    let key = c.before.before in
-    let service = key.before.before.before.before in
-    let gids = service.before.before.before.before in
-    let i = gids.before.before.before.before.before.before.args.i in
-    behind-both i.source_gid i.destination_gid gids.put-addresses.ensures
-    (behind service.put-eight.ensures (puts refl key.put-u16.ensures))
+    let i = c.args.i in
+    behind-both i.source_gid i.destination_gid c.put_addresses.ensures
+    (behind c.put_eight.ensures (puts refl c.put_u16.ensures))
 
-pub put-ib-spec : {M : Type 1} → statement M
-put-ib-spec = tie.close (tie.spec (search rules) (search rules) (search rules) (search rules) returns)
+pub put_ib_spec : {M : Type 1} → statement M
+put_ib_spec = tie.close (tie.spec (search rules) (search rules) (search rules) (search rules) returns)

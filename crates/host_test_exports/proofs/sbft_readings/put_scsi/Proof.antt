@@ -7,7 +7,7 @@ use Rattle.host_test_exports.proofs.sbft_readings.put_scsi.Tie as tie
 returns : tie.Need-returns
 unfolding laid_scsi
 returns c =
-    c.before.before.put-eight.ensures
+    c.put_eight.ensures
 
-pub put-scsi-spec : {M : Type 1} → statement M
-put-scsi-spec = tie.close (tie.spec (search rules) (search rules) returns)
+pub put_scsi_spec : {M : Type 1} → statement M
+put_scsi_spec = tie.close (tie.spec (search rules) (search rules) returns)

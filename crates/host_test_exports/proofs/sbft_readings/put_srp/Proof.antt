@@ -7,7 +7,7 @@ use Rattle.host_test_exports.proofs.sbft_readings.put_srp.Tie as tie
 returns : tie.Need-returns
 unfolding laid_srp
 returns c =
-    c.before.before.put-addresses.ensures
+    c.put_addresses.ensures
 
-pub put-srp-spec : {M : Type 1} → statement M
-put-srp-spec = tie.close (tie.spec (search rules) (search rules) returns)
+pub put_srp_spec : {M : Type 1} → statement M
+put_srp_spec = tie.close (tie.spec (search rules) (search rules) returns)

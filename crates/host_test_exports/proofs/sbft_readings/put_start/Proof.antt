@@ -8,9 +8,7 @@ use Rattle.host_test_exports.proofs.sbft_readings.put_start.Tie as tie
 returns : tie.Need-returns
 unfolding laid_start
 returns c =
-    let table-id = c.before.before in
-    let oem-id = table-id.before.before.before.before in
-    behind oem-id.put_six.ensures table-id.put-eight.ensures
+    behind c.put_six.ensures c.put_eight.ensures
 
-pub put-start-spec : {M : Type 1} → statement M
-put-start-spec = tie.close (tie.spec (search rules) (search rules) (search rules) returns)
+pub put_start_spec : {M : Type 1} → statement M
+put_start_spec = tie.close (tie.spec (search rules) (search rules) (search rules) returns)

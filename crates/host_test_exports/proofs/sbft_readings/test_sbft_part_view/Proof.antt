@@ -8,10 +8,8 @@ use Rattle.host_test_exports.proofs.sbft_readings.test_sbft_part_view.Tie as tie
 
 returns : tie.Need-returns
 returns c =
-    let at-put-bytes = c.before.before in
-    let at-part-view = at-put-bytes.before.before in
-    let shown = at-part-view.part-view.ensures.view-is in
-    (ap length shown, at-put-bytes.put-bytes.ensures ∙ ap (write _ 0) shown)
+    let shown = c.part_view-view.ensures.view-is in
+    (ap length shown, c.put_bytes.ensures ∙ ap (write _ 0) shown)
 
-pub test-sbft-part-view-spec : {M : Type 1} → statement M
-test-sbft-part-view-spec = tie.close (tie.spec (search rules) (search rules) (search rules) returns)
+pub test_sbft_part_view_spec : {M : Type 1} → statement M
+test_sbft_part_view_spec = tie.close (tie.spec (search rules) (search rules) (search rules) returns)

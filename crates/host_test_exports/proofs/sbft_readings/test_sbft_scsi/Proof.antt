@@ -6,5 +6,5 @@ use Rattle.host_test_exports.proofs.sbft_readings.test_sbft_scsi.Tie as tie
 returns : tie.Need-returns
 returns c = (cc, cc)
 
-pub test-sbft-scsi-spec : {M : Type 1} → statement M
-test-sbft-scsi-spec = tie.close (tie.spec (search rules) (search rules) (search rules) (search rules) returns)
+pub test_sbft_scsi_spec : {M : Type 1} → statement M
+test_sbft_scsi_spec = tie.close (tie.spec (search rules) (search rules) (search rules) (search rules) returns)

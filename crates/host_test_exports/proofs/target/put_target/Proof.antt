@@ -10,13 +10,10 @@ use Rattle.host_test_exports.proofs.target.put_target.Tie as tie
 returns : tie.Need-returns
 unfolding laid_target
 returns c =
-    let reverse = c.before.before in
-    let chap = reverse.before.before.before.before in
-    let login = chap.before.before.before.before in
-    let address = login.before.before.before.before in
-    let t = address.before.before.before.args.t in
-    behind-both (t.flags ∷ t.address) (le16 t.socket ++ le64 t.lun) address.put-target-address.ensures
-    (behind login.put-target-login.ensures (behind chap.put-texts.ensures reverse.put-texts2.ensures))
+    let t = c.args.t in
+    behind-both (t.flags ∷ t.address) (le16 t.socket ++ le64 t.lun) c.put_target_address.ensures
+    (behind c.put_target_login.ensures (behind c.put_texts.ensures c.put_texts-2.ensures))
 
-pub put-target-spec : {M : Type 1} → statement M
-put-target-spec = tie.close (tie.spec (search rules) (search rules) (search rules) (search rules) (search rules) returns)
+pub put_target_spec : {M : Type 1} → statement M
+put_target_spec = tie.close (tie.spec (search rules) (search rules) (search rules) (search rules) (search rules)
+    returns)

@@ -7,10 +7,7 @@ use Rattle.host_test_exports.proofs.target.put_target_login.Tie as tie
 
 returns : tie.Need-returns
 returns c =
-    let name = c.before.before in
-    let nic = name.before.before.before.before in
-    let chap-type = nic.before.before.before.before in
-    behind (puts refl chap-type.put_byte.ensures) (behind (puts refl nic.put-byte2.ensures) name.put-text.ensures)
+    behind (puts refl c.put_byte.ensures) (behind (puts refl c.put_byte-2.ensures) c.put_text.ensures)
 
-pub put-target-login-spec : {M : Type 1} → statement M
-put-target-login-spec = tie.close (tie.spec (search rules) (search rules) (search rules) (search rules) returns)
+pub put_target_login_spec : {M : Type 1} → statement M
+put_target_login_spec = tie.close (tie.spec (search rules) (search rules) (search rules) (search rules) returns)

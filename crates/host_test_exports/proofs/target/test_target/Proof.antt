@@ -6,5 +6,5 @@ use Rattle.host_test_exports.proofs.target.test_target.Tie as tie
 returns : tie.Need-returns
 returns c = (cc, cc)
 
-pub test-target-spec : {M : Type 1} → statement M
-test-target-spec = tie.close (tie.spec (search rules) (search rules) (search rules) (search rules) returns)
+pub test_target_spec : {M : Type 1} → statement M
+test_target_spec = tie.close (tie.spec (search rules) (search rules) (search rules) (search rules) returns)

@@ -6,5 +6,5 @@ use Rattle.host_test_exports.proofs.target.test_target_index.Tie as tie
 returns : tie.Need-returns
 returns c = cc
 
-pub test-target-index-spec : {M : Type 1} → statement M
-test-target-index-spec = tie.close (tie.spec (search rules) returns)
+pub test_target_index_spec : {M : Type 1} → statement M
+test_target_index_spec = tie.close (tie.spec (search rules) returns)

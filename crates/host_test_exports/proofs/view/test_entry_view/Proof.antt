@@ -8,10 +8,8 @@ use Rattle.host_test_exports.proofs.view.test_entry_view.Tie as tie
 
 returns : tie.Need-returns
 returns c =
-    let at-put-bytes = c.before.before in
-    let at-entry-view = at-put-bytes.before.before in
-    let shown = at-entry-view.entry-view.ensures.view-is in
-    (ap length shown, at-put-bytes.put-bytes.ensures ∙ ap (write _ 0) shown)
+    let shown = c.entry_view-view.ensures.view-is in
+    (ap length shown, c.put_bytes.ensures ∙ ap (write _ 0) shown)
 
-pub test-entry-view-spec : {M : Type 1} → statement M
-test-entry-view-spec = tie.close (tie.spec (search rules) (search rules) (search rules) returns)
+pub test_entry_view_spec : {M : Type 1} → statement M
+test_entry_view_spec = tie.close (tie.spec (search rules) (search rules) (search rules) returns)

@@ -14,57 +14,47 @@ use borrow.Author.Rules.{rules}
 use Rattle.ibft_rebuild.proofs.range.put_extras.Statement.{statement}
 use Rattle.ibft_rebuild.proofs.range.put_extras.Tie as tie
 
-abbrev invariant-loop : tie.invariant-loop
+abbrev invariant-loop : tie.invariant-loop-i
 invariant-loop range₀ at table starts slot first count end₀ i₀ range end i =
     (i ≤ extra_most) × (end ≤ at + 127 * i) × (length range ≡ length range₀) × Wrote range₀ at (gather (extra_in starts table) slot i) range end
 
-abbrev decreases-loop : tie.decreases-loop
+abbrev decreases-loop : tie.decreases-loop-i
 decreases-loop range₀ at table starts slot first count end₀ i₀ range end i = extra_most - i
 
-loop-holds : tie.Need-loop-init invariant-loop decreases-loop
+loop-holds : tie.Need-loop-i-init invariant-loop decreases-loop
 loop-holds c = (search rules, search rules, refl, wrote_none _ _ _ _)
 
-add-put-extra : tie.Need-overflow-add-put-extra invariant-loop decreases-loop
+add-put-extra : tie.Need-overflow_add-slot invariant-loop decreases-loop
 add-put-extra c =
-    let at-start = c.before.before.before.before.before.before in
-    omega (arith, at-start.requires.1)
+    omega (arith, c.requires.1)
 
-mul-put-extra : tie.Need-overflow-mul-put-extra invariant-loop decreases-loop
+mul-put-extra : tie.Need-overflow_mul-count invariant-loop decreases-loop
 mul-put-extra c =
-    let at-loop = c.before.before in
-    let at-start = at-loop.before.before.before.before in
-    let p = at-start.requires in
-    let a = at-start.args in
-    let i = at-loop.loop.i in
+    let p = c.requires in
+    let a = c.args in
+    let i = c.loop-i.i in
     omega (arith, p.1, (p.2 i (omega arith)).0, entries_below (a.slot + i) (omega (arith, p.1)))
 
-add-put-extra-2 : tie.Need-overflow-add-put-extra-2 invariant-loop decreases-loop
+add-put-extra-2 : tie.Need-overflow_add-first invariant-loop decreases-loop
 add-put-extra-2 c =
-    let at-loop = c.before.before in
-    let at-start = at-loop.before.before.before.before in
-    let p = at-start.requires in
-    let a = at-start.args in
-    let i = at-loop.loop.i in
+    let p = c.requires in
+    let a = c.args in
+    let i = c.loop-i.i in
     omega (arith, p.1, (p.2 i (omega arith)).0, entries_below (a.slot + i) (omega (arith, p.1)))
 
-put-extra-requires : tie.Need-put-extra-requires invariant-loop decreases-loop
+put-extra-requires : tie.Need-put_extra-end-requires invariant-loop decreases-loop
 put-extra-requires c κs =
-    let at-loop = c.before.before in
-    let at-start = at-loop.before.before.before.before in
-    let p = at-start.requires in
-    let l = at-loop.loop in
+    let p = c.requires in
+    let l = c.loop-i in
     let own = p.2 l.i (omega arith) in
     (omega (arith, p.0), omega (arith, p.1), own.0, own.1)
 
-loop-again : tie.Need-loop-preserved invariant-loop decreases-loop
+loop-again : tie.Need-loop-i-preserved invariant-loop decreases-loop
 loop-again c =
-    let at-put-extra = c.before.before in
-    let at-loop = at-put-extra.before.before.before in
-    let at-start = at-loop.before.before.before.before in
-    let p = at-start.requires in
-    let l = at-loop.loop in
-    let a = at-start.args in
-    let put = at-put-extra.put-extra.ensures in
+    let p = c.requires in
+    let l = c.loop-i in
+    let a = c.args in
+    let put = c.put_extra-end.ensures in
     let next = wrote-next _ _ (extra_in a.starts.now a.table.now) a.slot l.i (a.slot + l.i) _ _ _ _ l.invariant.3 refl put in (
       omega arith,
       omega (arith, put.ends, extra-most a.starts.now a.table.now (a.slot + l.i) (omega (arith, p.1))),
@@ -72,14 +62,14 @@ loop-again c =
       next,
     )
 
-same_length : tie.Need-same-length invariant-loop decreases-loop
-same_length c = c.before.loop.invariant.2
+same_length : tie.Need-shape_of-range invariant-loop decreases-loop
+same_length c = c.loop-i.invariant.2
 
 returns : tie.Need-returns invariant-loop decreases-loop
 returns c =
-    let l = c.before.loop in
+    let l = c.loop-i in
     wrote-done _ _ _ _ l.i _ _ _ l.invariant.3 (omega arith)
 
-pub put-extras-spec : {M : Type 1} → statement M
-put-extras-spec = tie.close (tie.spec invariant-loop decreases-loop loop-holds add-put-extra mul-put-extra add-put-extra-2
-    put-extra-requires (search rules) (search rules) loop-again same_length returns)
+pub put_extras_spec : {M : Type 1} → statement M
+put_extras_spec = tie.close (tie.spec invariant-loop decreases-loop loop-holds add-put-extra mul-put-extra
+    add-put-extra-2 put-extra-requires (search rules) (search rules) loop-again same_length returns)

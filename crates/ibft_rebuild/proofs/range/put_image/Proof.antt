@@ -14,54 +14,39 @@ use borrow.Author.Rules.{rules}
 use Rattle.ibft_rebuild.proofs.range.put_image.Statement.{statement}
 use Rattle.ibft_rebuild.proofs.range.put_image.Tie as tie
 
-add-result : tie.Need-overflow-add-result
+add-result : tie.Need-overflow_add-result
 add-result c =
-    let at-kind-of = c.before.before.before.before.before.before in
-    let at-start = at-kind-of.before.before.before.before.before in
-    let size = ap (λ (s : Shape). s.length) at-kind-of.kind-of.ensures in
-    omega (arith, size, (slot-fits _ at-start.requires.1).short)
+    let size = ap (λ (s : Shape). s.length) c.kind_of-size.ensures in
+    omega (arith, size, (slot-fits _ c.requires.1).short)
 
-returns : tie.Need-returns
+returns : tie.Need-returns-then-start-eq0
 returns c =
-    let at-put-zeros = c.before.before in
-    let at-kind-of = at-put-zeros.before.before.before.before in
-    let at-start-in = at-kind-of.before in
-    let at-start = at-start-in.before.before.before.before in
-    let a = at-start.args in
-    let off : start_in a.starts.now a.k ≡ 0 = omega (arith, at-start-in.start-in.ensures) in
-    let size = ap (λ (s : Shape). s.length) at-kind-of.kind-of.ensures in
-    image-wrote-off _ _ _ _ _ _ _ _ off size at-put-zeros.put-zeros.ensures (search rules)
+    let a = c.args in
+    let off : start_in a.starts.now a.k ≡ 0 = omega (arith, c.start_in-start.ensures) in
+    let size = ap (λ (s : Shape). s.length) c.kind_of-size.ensures in
+    image-wrote-off _ _ _ _ _ _ _ _ off size c.put_zeros.ensures (search rules)
 
-add-result-2 : tie.Need-overflow-add-result-2
+add-result-2 : tie.Need-overflow_add-result-2
 add-result-2 c =
-    let at_part = c.before.before.before.before in
-    let at-kind-of = at_part.before.before.before in
-    let at-start-in = at-kind-of.before in
-    let at-start = at-start-in.before.before.before.before in
-    let a = at-start.args in
-    let size = ap (λ (s : Shape). s.length) at-kind-of.kind-of.ensures in
-    let view = ap (λ (l : List ℕ). length l) at_part.part.ensures.bytes in
+    let a = c.args in
+    let size = ap (λ (s : Shape). s.length) c.kind_of-size.ensures in
+    let view = ap (λ (l : List ℕ). length l) c.part-image.ensures.bytes in
     omega (
       arith,
       size,
-      (slot-fits _ at-start.requires.1).short,
+      (slot-fits _ c.requires.1).short,
       view,
-      part-most a.table.now at-start-in.start-in.result at-kind-of.kind-of.result.length,
+      part-most a.table.now c.start_in-start.result c.kind_of-size.result.length,
     )
 
-returns-2 : tie.Need-returns-2
+returns-2 : tie.Need-returns
 returns-2 c =
-    let at-put-bytes = c.before.before in
-    let at_part = at-put-bytes.before.before in
-    let at-kind-of = at_part.before.before.before in
-    let at-start-in = at-kind-of.before in
-    let at-start = at-start-in.before.before.before.before in
-    let a = at-start.args in
-    let on : start_in a.starts.now a.k ≡ 0 → ⊥ = λ z. omega (arith, at-start-in.start-in.ensures) in
-    let size = ap (λ (s : Shape). s.length) at-kind-of.kind-of.ensures in
-    image-wrote-on _ _ _ _ _ _ _ _ _ _ on at-start-in.start-in.ensures size at_part.part.ensures.bytes
-    at-put-bytes.put-bytes.ensures (search rules)
+    let a = c.args in
+    let on : start_in a.starts.now a.k ≡ 0 → ⊥ = λ z. omega (arith, c.start_in-start.ensures) in
+    let size = ap (λ (s : Shape). s.length) c.kind_of-size.ensures in
+    image-wrote-on _ _ _ _ _ _ _ _ _ _ on c.start_in-start.ensures size c.part-image.ensures.bytes
+    c.put_bytes.ensures (search rules)
 
-pub put-image-spec : {M : Type 1} → statement M
-put-image-spec = tie.close (tie.spec (search rules) (search rules) (search rules) (search rules) (search rules) add-result
-    (search rules) returns (search rules) (search rules) add-result-2 (search rules) returns-2)
+pub put_image_spec : {M : Type 1} → statement M
+put_image_spec = tie.close (tie.spec (search rules) (search rules) (search rules) (search rules) (search rules)
+    add-result (search rules) returns (search rules) (search rules) add-result-2 (search rules) returns-2)

@@ -15,38 +15,33 @@ use borrow.Author.Rules.{rules}
 use Rattle.ibft_rebuild.proofs.range.put_slot_marks.Statement.{statement}
 use Rattle.ibft_rebuild.proofs.range.put_slot_marks.Tie as tie
 
-abbrev invariant-loop : tie.invariant-loop
+abbrev invariant-loop : tie.invariant-loop-k
 invariant-loop range₀ at starts k₀ range k =
     (k ≤ named_count) × (length range ≡ length range₀) × (range ≡ write range₀ at (tabulate (λ (j : ℕ). mark (present_in starts j)) 0 k))
 
-abbrev decreases-loop : tie.decreases-loop
+abbrev decreases-loop : tie.decreases-loop-k
 decreases-loop range₀ at starts k₀ range k = named_count - k
 
-loop-holds : tie.Need-loop-init invariant-loop decreases-loop
+loop-holds : tie.Need-loop-k-init invariant-loop decreases-loop
 loop-holds c = (search rules, refl, marks-none _ _ _ _)
 
-loop-again : tie.Need-loop-preserved invariant-loop decreases-loop
+loop-again : tie.Need-loop-k-preserved invariant-loop decreases-loop
 unfolding present_in
 loop-again c =
-    let at-put-byte = c.before.before in
-    let at_mark = at-put-byte.before in
-    let at-start-in = at_mark.before in
-    let at-loop = at-start-in.before.before.before in
-    let at-start = at-loop.before.before.before in
-    let l = at-loop.loop in
-    let s = at-start.args.starts.now in
+    let l = c.loop-k in
+    let s = c.args.starts.now in
     let next =
     marks-next (λ (j : ℕ). mark (present_in s j)) 0 _ _ l.k _ _ _ _ _ l.invariant.2 (omega arith) (omega arith)
-    (at_mark.mark.ensures.0 ∙ ap (λ (x : ℕ). mark (differs x 0)) at-start-in.start-in.ensures) at-put-byte.put_byte.ensures in
+    (c.mark.ensures.0 ∙ ap (λ (x : ℕ). mark (differs x 0)) c.start_in.ensures) c.put_byte.ensures in
     (omega arith, length-written _ _ _ _ next, next)
 
-same_length : tie.Need-same-length invariant-loop decreases-loop
-same_length c = c.before.loop.invariant.1
+same_length : tie.Need-shape_of-range invariant-loop decreases-loop
+same_length c = c.loop-k.invariant.1
 
 returns : tie.Need-returns invariant-loop decreases-loop
 returns c =
-    let l = c.before.loop in
-    let a = c.before.before.before.before.args in
+    let l = c.loop-k in
+    let a = c.args in
     let s = a.starts.now in
     let all : l.k ≡ named_count = omega arith in
     record {
@@ -54,7 +49,7 @@ returns c =
       ends = omega (arith, length-tabulate (λ (j : ℕ). mark (present_in s j)) 0 named_count);
     }
 
-pub put-slot-marks-spec : {M : Type 1} → statement M
-put-slot-marks-spec = tie.close (tie.spec invariant-loop decreases-loop loop-holds (search rules) (search rules) (search rules)
-    (search rules) (search rules) (search rules) (search rules) (search rules) loop-again (search rules)
-    (search rules) same_length returns)
+pub put_slot_marks_spec : {M : Type 1} → statement M
+put_slot_marks_spec = tie.close (tie.spec invariant-loop decreases-loop loop-holds (search rules) (search rules)
+    (search rules) (search rules) (search rules) (search rules) (search rules) (search rules) loop-again
+    (search rules) (search rules) same_length returns)

@@ -5,16 +5,17 @@ use borrow.Author.Rules.{rules}
 use Rattle.ibft_rebuild.proofs.rebuild.rebuild.Statement.{statement}
 use Rattle.ibft_rebuild.proofs.rebuild.rebuild.Tie as tie
 
-rebuild-accepted-requires : tie.Need-rebuild-accepted-requires
-rebuild-accepted-requires c κs = sym c.before.before.before.check.ensures.verdict-is ∙ c.before.enum_told.given.1
+rebuild-accepted-requires : tie.Need-rebuild_accepted-requires
+rebuild-accepted-requires c κs = sym c.check.ensures.verdict-is ∙ c.in-Accepted.is
 
-returns : tie.Need-returns
+returns : tie.Need-returns-in-Accepted
 returns c =
-    let e = c.before.before.rebuild-accepted.ensures in
+    let e = c.rebuild_accepted.ensures in
     rebuild-promise _ _ _ _ e.0 e.1
 
-returns-2 : tie.Need-returns-2
-returns-2 c = rebuild-refused _ _ (sym c.before.before.before.check.ensures.verdict-is ∙ c.before.refusal.given.1) _
+returns-2 : tie.Need-returns-in-Refused
+returns-2 c = rebuild-refused _ _ (sym c.check.ensures.verdict-is ∙ c.in-Refused.is) _
 
-pub rebuild-spec : {M : Type 1} → statement M
-rebuild-spec = tie.close (tie.spec (search rules) (search rules) rebuild-accepted-requires (search rules) (search rules) returns returns-2)
+pub rebuild_spec : {M : Type 1} → statement M
+rebuild_spec = tie.close (tie.spec (search rules) (search rules) rebuild-accepted-requires (search rules)
+    (search rules) returns returns-2)

@@ -1,6 +1,5 @@
 -- `twin` meets its contract: by the kind, then by the Index. Assumes nothing.
 use mathlib.Core.Path.{sym, ap₂, ◌∙◌}
-use borrow.Author.Tests.{not-true, not-false}
 use lib.Dec.{eqb}
 use Rattle.ibft_table.specs.Check.{twin}
 use borrow.Author.Rules.{rules}

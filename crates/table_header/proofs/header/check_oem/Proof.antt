@@ -1,6 +1,5 @@
 -- `check_oem` meets its contract: the first field that is not padded settles it. Assumes nothing.
 use mathlib.Core.Path.{sym, ap, ◌∙◌}
-use borrow.Author.Tests.{not-true, not-false}
 use Rattle.table_header.specs.Verdict.{first_of}
 use Rattle.table_header.specs.Header.{padded}
 use borrow.Author.Rules.{rules}
