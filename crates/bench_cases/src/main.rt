@@ -1,5 +1,7 @@
 // The builds of RULES.md, Worked cases, that are run and compared: a line for each. Cases 1 to 12 are proved as one table in
 // specs/. Standard input holds the table of case 5, the one that `show` is tested on.
+#![tactic(auto)]
+
 use ibft_build::build::build;
 use ibft_build_rules::range::{
     BASE_SIZE, ENTRY_MARKS_AT, INITIATOR_AT, LARGEST_SIZE, MARKS_AT, TARGET_0_AT, image_at,

@@ -2,11 +2,16 @@
 // and the right one, each up to 16,384 bytes. It writes a line for each difference in the words of the record
 // (docs/RECORD-FORMAT.md), then how many there are; or the one refusal that applies, with the side of the table that is
 // refused, 0 the left and 1 the right. `compare hide-secrets` shows no secret.
+#![tactic(auto)]
+
+ghost use Rattle.io.specs.Counts.{IsPrefixLen};
+
 use difference_text::{LINE_SIZE, put_difference};
 use ibft_compare::compare::{compare, difference};
 use notation::number::{Number, read_number};
 use octets::read::part;
 use refusal_text::{SIDE_LINE_SIZE, put_side_refusal};
+use std::env::Env;
 use table_header::verdict::Refusal;
 use text::split::{index_of, same};
 
@@ -128,10 +133,21 @@ fn read_and_compare(hide: bool) {
     compare_input(part(&room, 0, n), hide);
 }
 
+// Puts the program's argument k at the start of buf and answers its length, or 0 where it is missing or longer than buf. One
+// that is too long leaves its first bytes in buf.
+fn argument(rt: &impl Env, k: usize, buf: &mut [u8]) -> usize
+    ensures { IsPrefixLen result buf.new }
+{
+    match rt.arg(k, buf) {
+        Ok(n) => n,
+        Err(_) => 0,
+    }
+}
+
 // With a word that it does not know it shows nothing: it may have been meant to hide the secrets.
-fn main() {
+fn main(rt: HostRuntime) {
     let mut word = [0u8; 32];
-    let n = os::arg(1, &mut word);
+    let n = argument(&rt, 1, &mut word);
     if n == 0 {
         read_and_compare(false);
         return;

@@ -1,6 +1,8 @@
 // Enters a record: reads its text on standard input (docs/RECORD-FORMAT.md) and writes the table's bytes to standard output, an
 // iBFT, an aBFT or an sBFT by the fields that the text names. A text that cannot be read, or a record that is refused, is
 // answered on standard error, and no table is written.
+#![tactic(auto)]
+
 ghost use Rattle.std.specs.Prelude.{◌≤◌};
 
 use family_text::enter::IMAGE_SIZE;

@@ -1,6 +1,8 @@
 // Rebuilds a table: reads one that some firmware wrote, up to 16,384 bytes of standard input, and writes the table that a build
 // makes of its record, as short as can be built, to standard output. A table that is refused is answered on standard error, and
 // no table is written.
+#![tactic(auto)]
+
 use ibft_build_rules::LARGEST_LENGTH;
 use ibft_rebuild::rebuild::rebuild;
 use octets::read::part;

@@ -1,11 +1,16 @@
 // Tells what a table holds: reads a table, up to 16,384 bytes of standard input, and writes its record as text
 // (docs/RECORD-FORMAT.md), or the one refusal that applies. `tell hide-secrets` tells no secret: a comment stands in its place.
 // The first four bytes say the family; what has no family's signature is checked as an iBFT.
+#![tactic(auto)]
+
+ghost use Rattle.io.specs.Counts.{IsPrefixLen};
+
 use family_text::fields::{ABFT, IBFT, SBFT};
 use octets::read::{part, u32_at};
 use record_text::tell::tell;
 use refusal_text::{LINE_SIZE, put_refusal};
 use scan::Family;
+use std::env::Env;
 use table_header::verdict::{Refusal, Verdict};
 use text::split::same;
 
@@ -77,10 +82,21 @@ fn tell_input(hide: bool) {
     }
 }
 
+// Puts the program's argument k at the start of buf and answers its length, or 0 where it is missing or longer than buf. One
+// that is too long leaves its first bytes in buf.
+fn argument(rt: &impl Env, k: usize, buf: &mut [u8]) -> usize
+    ensures { IsPrefixLen result buf.new }
+{
+    match rt.arg(k, buf) {
+        Ok(n) => n,
+        Err(_) => 0,
+    }
+}
+
 // With a word that it does not know it tells nothing: it may have been meant to hide the secrets.
-fn main() {
+fn main(rt: HostRuntime) {
     let mut word = [0u8; 32];
-    let n = os::arg(1, &mut word);
+    let n = argument(&rt, 1, &mut word);
     if n == 0 {
         tell_input(false);
         return;
