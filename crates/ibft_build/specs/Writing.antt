@@ -14,7 +14,7 @@ use Rattle.ibft_build.specs.Planning.{structure_start}
 
 -- the header of an i_b_f_t of this Length; the two OEM fields stand in the range as in the header
 unfoldable pub header_with : List ℕ → ℕ → List ℕ
-header_with r size = header_start ibft_signature size ++ (part r 0 14 ++ zeros 24)
+header_with r size = header_start 0x54464269 size ++ (part r 0 14 ++ zeros 24)
 
 -- Control up to its words for the slots: ID, Version, Length, Index, flags, Extensions
 abbrev pub control_front : ℕ → ℕ → List ℕ

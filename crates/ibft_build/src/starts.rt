@@ -72,7 +72,7 @@ fn turn_of(k: u8) -> u8
 
 // Where Control ends: it has a word more for each extra.
 pub(crate) fn control_end(range: &[u8]) -> u16
-    ensures { (result ≡ control_end (extras_given range.now)) × (least_length ≤ result) × (result ≤ control_end most_words) }
+    ensures { (result ≡ control_end (extras_given range.now)) × (66 ≤ result) × (result ≤ 90) }
 {
     Control::END + 2 * extras_given(range) as u16
 }

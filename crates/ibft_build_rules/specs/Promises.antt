@@ -29,7 +29,7 @@ pub record Accepts (c : Record) (before : List ℕ) (n : ℕ) (after : List ℕ)
   pub length-is : length_of after ≡ n
   pub fits : n ≤ length before
   -- the largest Length that a build returns
-  pub bound : n ≤ largest_length
+  pub bound : n ≤ 13710
   -- room past Length keeps its bytes
   pub rest : drop n after ≡ drop n before
   -- what stands at 9 is the table's checksum byte, the one that the summing answers

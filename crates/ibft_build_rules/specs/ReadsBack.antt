@@ -71,7 +71,7 @@ pub record ReadsBack (c : Record) (t : List ℕ) : Type 0 where
   -- `structure_view`: from byte 5 of the part that starts with it, flags and fields as the record holds them
   pub fields : (number : ℕ) → number < slot_count
       → Gives (structure_held c (slot_held c number)) (λ (body : List ℕ). body) (structure_of t number).refusal
-      (part (structure_view_of t number) flags_at (body_size (kind_of (slot_held c number))))
+      (part (structure_view_of t number) 5 (body_size (kind_of (slot_held c number))))
   -- each structure that is present has a number, and so has each entry
   pub slot-called : (k : ℕ) (body : List ℕ) → structure_held c k ≡ some body → slot_held c (slot_number (nics_held c) k) ≡ k
   pub entry-called : (n : ℕ) (bytes : List ℕ) → entry_held c n ≡ some bytes → entry_held_at c (entry_number (nics_held c) n) ≡ n

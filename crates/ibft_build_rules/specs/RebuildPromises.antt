@@ -22,7 +22,7 @@ Clean t = (n : ℕ) → n < entry_count → holds_zero t n ≡ false
 pub record ReadAndRebuilt (t : List ℕ) : Type 0 where
   pub reads : record_given (range_of t) t ≡ record_of t
   pub builds : contents_verdict (range_of t) t ≡ Accepted
-  pub enough : length_built (content_given (range_of t) t) ≤ largest_length
+  pub enough : length_built (content_given (range_of t) t) ≤ 13710
   pub rebuilt : (room : List ℕ) → length_built (content_given (range_of t) t) ≤ length room
       → ((answer_of (range_of t) t (length room)).refusal.number ≡ 0) × (record_of (room_after (range_of t) t room) ≡ record_of t)
 

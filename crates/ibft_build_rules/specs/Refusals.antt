@@ -55,7 +55,7 @@ flags_tests r = refuse 10 255 (reserved_set (byte r 14) control) ∷ []
 unfoldable pub image_tests : List ℕ → ℕ → List Test
 image_tests r k =
     cond (structure_given r k)
-    (refuse 10 (slot_number (nics_given r) k) (reserved_set (byte r (image_at r k + flags_at)) (kind_of k))
+    (refuse 10 (slot_number (nics_given r) k) (reserved_set (byte r (image_at r k + 5)) (kind_of k))
     ∷ refuse 19 (slot_number (nics_given r) k) ((kind_of k).chap && ltb 2 (byte r (image_at r k + chap_at)))
     ∷ [])
     []

@@ -85,7 +85,7 @@ pub fn range_size(range: &[u8]) -> u16
 // Where a named slot's image starts.
 fn named_image(k: u8) -> u16
     requires { k < named_count }
-    ensures { (result ≡ named_image k) × (result ≤ base_size) }
+    ensures { (result ≡ named_image k) × (result ≤ 419) }
 {
     match k {
         1 => NIC_0_AT,

@@ -65,7 +65,7 @@ views = refl
 
 -- refused: on the left, on the right; on both sides the left one's. Nothing is listed and nothing shown.
 wrong_sum : Refusal
-wrong_sum = refusal_with 6 9 248
+wrong_sum = record { number = 6; place = 9; checksum = 248 }
 
 refusals : compared_of damaged one ∷ compared_of one damaged ∷ compared_of damaged [] ∷ compared_of [] damaged ∷ []
     ≡ counted wrong_sum 0 0 ∷ counted wrong_sum 1 0 ∷ counted wrong_sum 0 0 ∷ counted (refusal 3 0) 0 0 ∷ []

@@ -309,7 +309,7 @@ fn entry_differs(left: &[u8], ls: &[u16], n: u16, right: &[u8], rs: &[u16], m: u
 const TARGET_STRINGS: u8 = 5;
 
 fn string_count(k: u8) -> u8
-    ensures { (result ≡ length (kind_of k).string_fields) × (result ≤ target_strings) }
+    ensures { (result ≡ length (kind_of k).string_fields) × (result ≤ 5) }
 {
     if kind_of(k).id == Target::ID {
         return TARGET_STRINGS;
@@ -350,7 +350,7 @@ fn meet_string(
 // Walks along the strings of a pair.
 fn meet_strings(left: &[u8], ls: &[u16], right: &[u8], rs: &[u16], pair: Pair, met: Met) -> Met
     requires { Starts left.now ls.now right.now rs.now × Paired pair × (met.count ≤ 65000) }
-    ensures { (result ≡ walked left.now right.now met (string_points pair)) × (result.count ≤ met.count + target_strings) }
+    ensures { (result ≡ walked left.now right.now met (string_points pair)) × (result.count ≤ met.count + 5) }
 {
     let strings = string_count(pair.group);
     let mut met = met;

@@ -1,5 +1,9 @@
 // The Control structure.
-use crate::shape::FLAGS_AT;
+ghost use Rattle.ibft_layout.specs.Layout.{control};
+ghost use Rattle.ibft_layout.specs.Shapes.{shape_of};
+ghost use Rattle.std.specs.Prelude.{◌≡◌};
+
+use crate::shape::{FLAGS_AT, Shape};
 
 // Its flags; the words that say where the other structures start are read one by one.
 #[derive(Clone, Copy)]
@@ -34,4 +38,17 @@ impl Control {
     pub const EXTENSIONS_AT: u16 = 54;
 
     pub const WORDS_AT: u16 = 56;
+
+    // What the layout knows of the kind.
+    pub(crate) fn shape() -> Shape
+        ensures { result ≡ shape_of control }
+    {
+        Shape {
+            id: Self::ID,
+            version: Self::VERSION,
+            length: Self::LENGTH,
+            reserved: Self::RESERVED,
+            chap: false,
+        }
+    }
 }

@@ -162,7 +162,7 @@ checksum-told : (header_of (unsummed 0 1 3)).refusal
     ∷ (entry_of (unsummed 0 1 3) 2).refusal
     ∷ (login_order_of (unsummed 0 1 3)).refusal
     ∷ []
-    ≡ tabulate (λ (i : ℕ). refusal_with 6 9 173) 0 7
+    ≡ tabulate (λ (i : ℕ). record { number = 6; place = 9; checksum = 173 }) 0 7
 unfolding computing unsummed target_bytes
 checksum-told = refl
 

@@ -27,15 +27,15 @@ use Rattle.ibft_readings.specs.declared.pci.Pci.{Pci}
 -- ---- fields, from the bytes that start at the table (header) or at the structure; of no bytes every field is 0
 
 unfoldable pub header_in : List ℕ → Header
-header_in t = record { oem_id = bytes_at t 10 6; oem_table_id = bytes_at t 16 8; flags = byte t (control_at + flags_at) }
+header_in t = record { oem_id = bytes_at t 10 6; oem_table_id = bytes_at t 16 8; flags = byte t 53 }
 
 abbrev pub control_in : List ℕ → Control
-control_in p = record { flags = byte p flags_at }
+control_in p = record { flags = byte p 5 }
 
 unfoldable pub initiator_in : List ℕ → Initiator
 initiator_in p =
     record {
-      flags = byte p flags_at;
+      flags = byte p 5;
       isns = bytes_at p 6 16;
       slp = bytes_at p 22 16;
       radius = bytes_at p 38 16;
@@ -46,7 +46,7 @@ initiator_in p =
 unfoldable pub nic_in : List ℕ → Nic
 nic_in p =
     record {
-      flags = byte p flags_at;
+      flags = byte p 5;
       address = bytes_at p 6 16;
       prefix = byte p 22;
       origin = byte p 23;
@@ -63,7 +63,7 @@ nic_in p =
 unfoldable pub target_in : List ℕ → Target
 target_in p =
     record {
-      flags = byte p flags_at;
+      flags = byte p 5;
       address = bytes_at p 6 16;
       socket = word16 p 22;
       lun = word64 p 24;
@@ -127,7 +127,7 @@ structure_from starts t k Accepted =
       id = (kind_of k).id;
       index = index_in starts t k;
       start = start_in starts k;
-      flags = byte t (start_in starts k + flags_at);
+      flags = byte t (start_in starts k + 5);
     }
 structure_from starts t k (Refused r) = record { refusal = r; id = 0; index = 0; start = 0; flags = 0 }
 

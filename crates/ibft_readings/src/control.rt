@@ -19,7 +19,7 @@ fn control_in(part: &[u8]) -> Control
 
 // Those of the table's: it is read from 48 on, behind the header.
 pub(crate) fn control_of(t: &[u8]) -> Control
-    ensures { result.flags ≡ byte t.now (control_at + flags_at) }
+    ensures { result.flags ≡ byte t.now (control_at + 5) }
 {
     control_in(part(t, Control::AT as usize, t.len()))
 }

@@ -40,7 +40,7 @@ alien_control t =
 unfoldable pub control_tests : List ℕ → List Test
 control_tests t =
     refuse 9 control_at (alien_control t)
-    ∷ refuse 10 (control_at + flags_at) (reserved_set (byte t (control_at + flags_at)) control)
+    ∷ refuse 10 (control_at + 5) (reserved_set (byte t (control_at + 5)) control)
     ∷ refuse 11 extensions_at (differs (word16 t extensions_at) 0)
     ∷ []
 
@@ -74,7 +74,7 @@ extra_tests t w =
 -- flags and CHAP type
 unfoldable pub flag_tests : List ℕ → ℕ → List Test
 flag_tests t w =
-    refuse 10 (start_at t w + flags_at) (reserved_set (byte t (start_at t w + flags_at)) (kind_at t w))
+    refuse 10 (start_at t w + 5) (reserved_set (byte t (start_at t w + 5)) (kind_at t w))
     ∷ refuse 19 (start_at t w + chap_at) ((kind_at t w).chap && ltb 2 (byte t (start_at t w + chap_at)))
     ∷ []
 
@@ -107,7 +107,7 @@ entry_tests starts t n =
 -- all tests: the header (i_b_f_t, 48 bytes, Length 66), Control, word by word, then what overlaps, then entry by entry
 unfoldable pub check_tests : List ℕ → List Test
 check_tests t =
-    header_tests ibft_signature control_at least_length t
+    header_tests 0x54464269 48 66 t
     ++ (control_tests t
     ++ (gather (word_tests t) 0 (word_count t)
     ++ (gather (overlap_tests t) 0 (word_count t) ++ gather (entry_tests (starts_of t) t) 0 entry_count)))

@@ -78,7 +78,7 @@ refuses number place t = record { table = t; verdict = Refused (refusal number p
 
 -- refused with 6: the byte that would be right at 9
 wrong_sum : ℕ → List ℕ → Case
-wrong_sum byte t = record { table = t; verdict = Refused (refusal_with 6 9 byte) }
+wrong_sum byte t = record { table = t; verdict = Refused (record { number = 6; place = 9; checksum = byte }) }
 
 cases : List Case
 cases =

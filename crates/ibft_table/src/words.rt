@@ -27,7 +27,7 @@ pub(crate) fn control_end(t: &[u8]) -> u32
 
 // How many extra words it has; twelve at most, whatever its Length says.
 pub(crate) fn extra_words(t: &[u8]) -> u8
-    ensures { (result ≡ extra_words t.now) × (result ≤ most_words) }
+    ensures { (result ≡ extra_words t.now) × (result ≤ 12) }
 {
     let length = control_length(t);
     if length < Control::LENGTH {
@@ -41,7 +41,7 @@ pub(crate) fn extra_words(t: &[u8]) -> u8
 
 // How many words there are in all.
 pub(crate) fn word_count(t: &[u8]) -> u8
-    ensures { (result ≡ word_count t.now) × (result ≤ slot_count) }
+    ensures { (result ≡ word_count t.now) × (result ≤ 17) }
 {
     NAMED_COUNT + extra_words(t)
 }

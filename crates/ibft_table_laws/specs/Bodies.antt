@@ -69,10 +69,10 @@ target_body r = r.flags ∷ (r.address ++ (le16 r.socket ++ (le64 r.lun ++ (r.ch
 -- ---- read from the flags on: ID, Version, Length and Index are no part of it
 
 unfoldable pub initiator_from : List ℕ → Initiator
-initiator_from body = initiator_fields (initiator_in (zeros flags_at ++ body))
+initiator_from body = initiator_fields (initiator_in (zeros 5 ++ body))
 
 unfoldable pub nic_from : List ℕ → Nic
-nic_from body = nic_fields (nic_in (zeros flags_at ++ body))
+nic_from body = nic_fields (nic_in (zeros 5 ++ body))
 
 unfoldable pub target_from : List ℕ → Target
-target_from body = target_fields (target_in (zeros flags_at ++ body))
+target_from body = target_fields (target_in (zeros 5 ++ body))

@@ -28,7 +28,7 @@ pub record StartFacts (t : List ℕ) (start : ℕ) (kind : Kind) (index : ℕ) :
   pub version : byte t (start + 1) ≡ kind.version
   pub length-is : word16 t (start + 2) ≡ kind.length
   pub index_is : byte t (start + 4) ≡ index
-  pub reserved : bit_and (byte t (start + flags_at)) kind.reserved ≡ 0
+  pub reserved : bit_and (byte t (start + 5)) kind.reserved ≡ 0
 
 pub record ControlFacts (t : List ℕ) : Type 0 where
   pub id : byte t control_at ≡ control.id
@@ -38,7 +38,7 @@ pub record ControlFacts (t : List ℕ) : Type 0 where
   pub short : control_length t ≤ control.length + 2 * most_words
   pub even : control_length t % 2 ≡ 0
   pub inside : control_end_of t ≤ length_of t
-  pub reserved : bit_and (byte t (control_at + flags_at)) control.reserved ≡ 0
+  pub reserved : bit_and (byte t (control_at + 5)) control.reserved ≡ 0
   pub extensions : word16 t extensions_at ≡ 0
 
 -- word w, where it is used
@@ -68,7 +68,7 @@ abbrev pub Apart : List ℕ → ℕ → ℕ → Type 0
 Apart t v w = (end_at t v ≤ start_at t w) ⊎ (end_at t w ≤ start_at t v)
 
 pub record Facts (t : List ℕ) : Type 0 where
-  pub header : HeaderFacts ibft_signature control_at least_length t
+  pub header : HeaderFacts 0x54464269 48 66 t
   pub control : ControlFacts t
   pub word : (w : ℕ) → w < word_count t → used_at t w ≡ true → WordFacts t w
   pub extra : (w : ℕ) → named_count ≤ w → w < word_count t → used_at t w ≡ true → ExtraFacts t w

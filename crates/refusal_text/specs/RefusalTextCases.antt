@@ -11,14 +11,14 @@ use Rattle.refusal_text.specs.RefusalText.{checksum_text, refusal_words, refusal
 
 -- a refusal of the sum, with the byte that would be right
 wrong_sum : ℕ → Refusal
-wrong_sum byte = refusal_with 6 9 byte
+wrong_sum byte = record { number = 6; place = 9; checksum = byte }
 
 line : String → List ℕ
 line s = ascii s ++ (10 ∷ [])
 
 lines : map refusal_text
-    (wrong_sum 211 ∷ wrong_sum 0 ∷ refusal 7 8 ∷ refusal 21 0 ∷ refusal 30 65582 ∷ refusal_with 7 8 211
-    ∷ refusal_with 6 4294967295 255 ∷ [])
+    (wrong_sum 211 ∷ wrong_sum 0 ∷ refusal 7 8 ∷ refusal 21 0 ∷ refusal 30 65582 ∷ record { number = 7; place = 8; checksum = 211 }
+    ∷ record { number = 6; place = 4294967295; checksum = 255 } ∷ [])
     ≡ map line
     ("refused 6 9 211" ∷ "refused 6 9 0" ∷ "refused 7 8" ∷ "refused 21 0" ∷ "refused 30 65582" ∷ "refused 7 8" ∷ "refused 6 4294967295 255" ∷ [])
 unfolding tabulate digit_byte digits_within digits checksum_text refusal_words refusal_text wrong_sum line
@@ -27,7 +27,7 @@ lines = refl
 -- a refusal of the left table, 0, and of the right one, 1
 side-lines : side_refusal_text (wrong_sum 65) 1 ∷ side_refusal_text (wrong_sum 0) 0 ∷ side_refusal_text (refusal 7 8) 0
     ∷ side_refusal_text (refusal 30 65582) 1
-    ∷ side_refusal_text (refusal_with 6 4294967295 255) 255 ∷ []
+    ∷ side_refusal_text (record { number = 6; place = 4294967295; checksum = 255 }) 255 ∷ []
     ≡ map line
     ("refused 6 9 65 1" ∷ "refused 6 9 0 0" ∷ "refused 7 8 0" ∷ "refused 30 65582 1" ∷ "refused 6 4294967295 255 255" ∷ [])
 unfolding tabulate digit_byte digits_within digits checksum_text refusal_words side_refusal_text wrong_sum line

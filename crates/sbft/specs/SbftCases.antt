@@ -70,8 +70,8 @@ unfolding computing image table moved changed refuses from
 judged = refl
 
 -- a wrong sum: 40 stands at 9, and with 48 less in the others 88 would be right; the check's refusal comes through a reading
-wrong-sum : (check_of (write table 48 (0 ∷ [])) ≡ Refused (refusal_with 6 9 88))
-    × ((scsi_of (write table 48 (0 ∷ []))).refusal ≡ refusal_with 6 9 88)
+wrong-sum : (check_of (write table 48 (0 ∷ [])) ≡ Refused (record { number = 6; place = 9; checksum = 88 }))
+    × ((scsi_of (write table 48 (0 ∷ []))).refusal ≡ record { number = 6; place = 9; checksum = 88 })
 unfolding computing image table from
 wrong-sum = (refl, refl)
 

@@ -34,7 +34,7 @@ pub fn refuse(number: u8, place: u32) -> Verdict
 
 // The refusal with this number and place, and with the checksum byte that would be right.
 pub fn refuse_with(number: u8, place: u32, checksum: u8) -> Verdict
-    ensures { result ≡ Refused (refusal_with number place checksum) }
+    ensures { result ≡ Refused (record { number = number; place = place; checksum = checksum }) }
 {
     Verdict::Refused(Refusal {
         number,
