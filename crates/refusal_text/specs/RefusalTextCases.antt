@@ -5,7 +5,7 @@ use Prim.Native.String.{String}
 use Rattle.octets.specs.Counting.{tabulate}
 use Rattle.text.specs.Put.{ascii}
 use Rattle.notation.specs.Number.{digit_byte, digits_within, digits}
-use Rattle.table_header.specs.Verdict.{refusal, refusal_with}
+use Rattle.table_header.specs.Verdict.{refusal}
 use Rattle.table_header.specs.declared.verdict.Refusal.{Refusal}
 use Rattle.refusal_text.specs.RefusalText.{checksum_text, refusal_words, refusal_text, side_refusal_text}
 
