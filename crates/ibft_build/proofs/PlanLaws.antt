@@ -16,7 +16,7 @@ use Rattle.ibft_layout.specs.Layout.{slot_count, entry_count, control_end, may_s
 use Rattle.ibft_build_rules.specs.RecordRange.{content_given}
 use Rattle.ibft_build_rules.specs.Plan.{heap_start, length_built, offset_built}
 use Rattle.ibft_record.specs.Limits.{entry_limit, extras_given}
-use Rattle.ibft_build.specs.Planning.{field_given, entry_fields, entries_given, end_given, wanted_sizes}
+use Rattle.ibft_build.specs.Planning.{field_given, entry_fields, entries_given, end_given}
 use Rattle.ibft_build.specs.Planning.{size_given, heap_sizes, entry_offsets, structure_ends, Planned}
 use Rattle.ibft_build.proofs.StartLaws.{ends_at, ends-bound, end-built, end-first, end-grows}
 use Rattle.ibft_record.proofs.RecordLaws.{entry-limit-most}

@@ -1,13 +1,13 @@
 -- What a build plans before it writes, as the code keeps it: a list for all entries or all structures, made once.
 -- Assumes nothing: these are definitions.
-use Rattle.std.specs.Prelude.{◌≡◌, List, Bool, true, cond, ◌&&◌, ℕ, ◌+◌, min, ◌≤◌, ◌<◌, length, eqb, ltb}
-use Rattle.octets.specs.Counting.{count, tabulate}
+use Rattle.std.specs.Prelude.{◌≡◌, List, Bool, true, cond, ◌&&◌, ℕ, ◌+◌, ◌≤◌, ◌<◌, length, ltb}
+use Rattle.octets.specs.Counting.{tabulate}
 use Rattle.string_heap.specs.Stored.{Entry, stored, size}
 use Rattle.string_heap.specs.Places.{ends_with}
 use Rattle.string_heap.specs.Starts.{align8, end_to}
-use Rattle.ibft_layout.specs.Layout.{kind_of, slot_count, named_count, extra_most, extra_nics, extra_targets, most_words, entry_count, owner_of}
-use Rattle.ibft_layout.specs.Layout.{string_of, first_entry, control_end, built_slot, may_share}
-use Rattle.ibft_build_rules.specs.RecordRange.{base_size, nics_given, targets_given, image_at, structure_given, entry_given, length_given, start_given, content_given}
+use Rattle.ibft_layout.specs.Layout.{kind_of, slot_count, entry_count, owner_of}
+use Rattle.ibft_layout.specs.Layout.{string_of, control_end, built_slot, may_share}
+use Rattle.ibft_build_rules.specs.RecordRange.{base_size, image_at, structure_given, entry_given, length_given, start_given, content_given}
 use Rattle.ibft_record.specs.Limits.{entry_limit, extras_given}
 use Rattle.ibft_build_rules.specs.Plan.{turn_of, length_built, offset_built}
 use Rattle.ibft_build_rules.specs.Build.{answer_of, room_after}

@@ -5,7 +5,7 @@ use Rattle.octets.specs.Counting.{gather}
 use Rattle.octets.specs.Octets.{byte, part, le16, zeros}
 use Rattle.string_heap.specs.Starts.{align8}
 use Rattle.table_header.specs.Header.{header_start}
-use Rattle.ibft_layout.specs.Layout.{kind_of, first_entry, named_count, most_words, built_slot, ibft_signature}
+use Rattle.ibft_layout.specs.Layout.{kind_of, first_entry, named_count, most_words, built_slot}
 use Rattle.ibft_table.specs.Record.{body_size}
 use Rattle.ibft_build_rules.specs.RecordRange.{image_at, structure_given, index_given}
 use Rattle.ibft_build_rules.specs.TableBytes.{start_bytes, control_start}

@@ -19,7 +19,7 @@ use Rattle.octets.specs.Counting.{any, sum_to}
 use Rattle.octets.proofs.CountingLaws.{each_holds}
 use Rattle.octets.proofs.CountLaws.{count_same}
 use Rattle.ibft_layout.specs.Layout.{Kind, initiator, nic, target, slot_count, entry_count, named_count, extra_most, extra_nics, kind_of, nic_slot}
-use Rattle.ibft_layout.specs.Layout.{target_slot, owner_of, string_of, named_entries, first_entry, closed, entry_number}
+use Rattle.ibft_layout.specs.Layout.{target_slot, string_of, named_entries, first_entry, closed, entry_number}
 use Rattle.table_header.specs.Verdict.{refusal_of}
 use Rattle.ibft_table.specs.Table.{starts_of, nics_in, present}
 use Rattle.ibft_table.specs.Check.{check_of}

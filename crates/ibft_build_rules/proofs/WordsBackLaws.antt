@@ -11,7 +11,6 @@ use Prim.Native.Nat.{ℕ, zero, suc, ◌+◌, ◌*◌, ◌-◌, ◌≤◌, ◌<�
 use native.Mathlib.Decide.{dec_lt}
 use native.Mathlib.Omega.{arith}
 use borrow.Author.Tests.{lt-ltb, le-ltb}
-use lib.ListN.{length}
 use lib.Dec.{ltb}
 use Rattle.octets.specs.Counting.{count, gather}
 use Rattle.octets.specs.Octets.{byte, le16}

@@ -1,6 +1,5 @@
 -- What the build promises. Nothing but the promises stands here.
 use Rattle.std.specs.Prelude.{◌≡◌, ◌⊎◌, ◌↔◌, true, List, ℕ, ◌≤◌, ◌<◌, length, take, drop}
-use Rattle.ibft_build_rules.specs.Plan.{largest_length}
 use Rattle.octets.specs.Octets.{byte}
 use Rattle.octets.specs.Promises.{ChecksumByte}
 use Rattle.table_header.specs.Header.{length_of}

@@ -5,7 +5,7 @@ use Rattle.std.proofs.Math.Option.{Option, none, some}
 use Rattle.octets.specs.Counting.{count}
 use Rattle.octets.specs.Octets.{byte, part}
 use Rattle.ibft_layout.specs.Layout.{slot_count, entry_count, extra_most, extra_nics, kind_of, nic_slot, target_slot, first_entry, slot_at}
-use Rattle.ibft_layout.specs.Layout.{slot_number, entry_at, entry_number, flags_at}
+use Rattle.ibft_layout.specs.Layout.{slot_number, entry_at, entry_number}
 use Rattle.ibft_table.specs.Record.{Record, body_size}
 use Rattle.ibft_readings.specs.Readings.{header_of, structure_of, structure_view_of, initiator_of, nic_of, target_of, entry_of, view_of}
 use Rattle.table_header.specs.Verdict.{refusal, accepted}

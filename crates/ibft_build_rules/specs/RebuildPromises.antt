@@ -7,7 +7,7 @@ use Rattle.table_header.specs.Promises.{ReturnsChecksum}
 use Rattle.table_header.specs.declared.verdict.Verdict.TheVariants.{Accepted}
 use Rattle.ibft_build_rules.specs.RecordRange.{content_given, record_given}
 use Rattle.ibft_build_rules.specs.Refusals.{contents_verdict}
-use Rattle.ibft_build_rules.specs.Plan.{length_built, largest_length}
+use Rattle.ibft_build_rules.specs.Plan.{length_built}
 use Rattle.ibft_build_rules.specs.Build.{answer_of, room_after}
 use Rattle.ibft_build_rules.specs.Rebuild.{range_of, holds_zero, rebuild_answer, rebuild_room}
 use Rattle.ibft_build_rules.specs.Promises.{Accepts, Room}

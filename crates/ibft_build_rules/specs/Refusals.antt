@@ -4,7 +4,7 @@ use Rattle.octets.specs.Counting.{any, gather}
 use Rattle.octets.specs.Octets.{byte, part, differs}
 use Rattle.hostname.specs.Hostname.{is_host_name}
 use Rattle.ibft_layout.specs.Layout.{control, nic, target, kind_of, chap_at, slot_count, entry_count, named_count, named_entries, extra_most}
-use Rattle.ibft_layout.specs.Layout.{extra_nics, least_index, string_of, slot_number, entry_number, flags_at}
+use Rattle.ibft_layout.specs.Layout.{extra_nics, least_index, string_of, slot_number, entry_number}
 use Rattle.table_header.specs.Verdict.{Test, refuse, first_of}
 use Rattle.table_header.specs.Header.{padded}
 use Rattle.ibft_table.specs.Check.{reserved_set}

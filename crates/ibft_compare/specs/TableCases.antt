@@ -2,7 +2,7 @@
 -- side.
 use Rattle.std.specs.Prelude.{◌≡◌, refl, List, [], ◌∷◌, ℕ}
 use Rattle.octets.specs.Octets.{write}
-use Rattle.table_header.specs.Verdict.{refusal, accepted, refusal_with}
+use Rattle.table_header.specs.Verdict.{refusal, accepted}
 use Rattle.table_header.specs.declared.verdict.Refusal.{Refusal}
 use Rattle.ibft_table.specs.CheckCases.{blank, place, words, sealed}
 use Rattle.ibft_compare.specs.Differences.{stretch, nothing}

@@ -1,6 +1,6 @@
 -- What the functions inside say: a walk along points, in which the differences are counted and the one asked for is kept.
 -- Callers need none of it. Assumes nothing: these are definitions.
-use Rattle.std.specs.Prelude.{ℕ, ◌+◌, ◌-◌, ◌≤◌, ◌<◌, ◌≡◌, ◌⊎◌, List, [], ◌∷◌, Bool, true, false, cond, not, length, get_or, eqb}
+use Rattle.std.specs.Prelude.{ℕ, ◌+◌, ◌-◌, ◌≤◌, ◌<◌, ◌≡◌, ◌⊎◌, List, [], ◌∷◌, Bool, true, false, cond, not, get_or, eqb}
 use Rattle.octets.specs.Counting.{tabulate}
 use Rattle.octets.specs.Octets.{part}
 use Rattle.ibft_layout.specs.Layout.{kind_of, slot_count, named_count, extra_most, extra_nics, extra_targets}

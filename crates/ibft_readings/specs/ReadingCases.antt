@@ -2,7 +2,7 @@
 use Rattle.std.specs.Prelude.{◌≡◌, refl, List, [], ◌∷◌, ◌++◌, map, ℕ, take}
 use Rattle.octets.specs.Counting.{tabulate}
 use Rattle.octets.specs.Octets.{byte, word16, word64, bytes_at, le16, le32, zeros, checksum, write}
-use Rattle.table_header.specs.Verdict.{refusal, accepted, refusal_with}
+use Rattle.table_header.specs.Verdict.{refusal, accepted}
 use Rattle.ibft_layout.specs.Shapes.{string_words_at}
 use Rattle.ibft_readings.specs.Readings.{initiator_in, nic_in, target_in, address_kind_of, address_number, header_of, structure_of}
 use Rattle.ibft_readings.specs.Readings.{initiator_of, nic_of, target_of, entry_of, view_of}

@@ -2,7 +2,7 @@
 -- Assumes nothing: these are definitions.
 use Rattle.std.specs.Prelude.{ℕ, ◌+◌, ◌/◌, ◌%◌, List, [], ◌∷◌, ◌++◌, cond, not, ◌&&◌, drop, leb, eqb}
 use Rattle.octets.specs.Octets.{byte, word16, word64, part, bytes_at, all_zero}
-use Rattle.ibft_layout.specs.Layout.{kind_of, slot_count, entry_count, nic_slot, target_slot, slot_at, entry_at, control_at, flags_at}
+use Rattle.ibft_layout.specs.Layout.{kind_of, slot_count, entry_count, nic_slot, target_slot, slot_at, entry_at}
 use Rattle.ibft_layout.specs.Shapes.{string_words_at}
 use Rattle.table_header.specs.Verdict.{refuse, first_of, refusal_of, shown}
 use Rattle.ibft_table.specs.Table.{starts_of, start_in, present_in, index_in, nics_in, size_in, offset_in, holds_in}

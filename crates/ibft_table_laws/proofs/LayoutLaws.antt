@@ -11,13 +11,13 @@ use mathlib.Core.Bool.{Bool, true, false, not, ◌&&◌}
 use Prim.Native.Nat.{ℕ, zero, suc, ◌+◌, ◌*◌, ◌-◌, ◌≤◌, ◌<◌}
 use native.Mathlib.Omega.{arith}
 use borrow.Author.Tests.{leb-true, leb-false, ltb-true, eqb-true, eqb-false, not-true}
-use lib.ListN.{length, get_or-eq_default}
+use lib.ListN.{length}
 use lib.Dec.{leb, ltb, eqb}
 use Rattle.octets.specs.Counting.{any}
 use Rattle.octets.proofs.TestLaws.{and_both, and-other}
 use Rattle.octets.proofs.CountingLaws.{any_none, each_holds}
-use Rattle.ibft_layout.specs.Layout.{nic, target, slot_count, entry_count, extra_most, extra_nics, extra_targets, kinds, kind_of, entries_of}
-use Rattle.ibft_layout.specs.Layout.{entries_from, entry_layout, owner_of, string_of, first_entry, built_slot, chap_at}
+use Rattle.ibft_layout.specs.Layout.{nic, target, slot_count, entry_count, extra_most, extra_nics, extra_targets, kind_of}
+use Rattle.ibft_layout.specs.Layout.{owner_of, string_of, first_entry, built_slot, chap_at}
 use Rattle.ibft_readings.specs.Computing.{computing}
 
 -- ---- slots

@@ -7,21 +7,21 @@
 --     no_gap             extras of a kind fill its slots from the first on, by Index
 -- Assumes nothing.
 use mathlib.Core.Path.{◌≡◌, refl, sym, ap, ◌∙◌}
-use mathlib.Core.Bool.{Bool, true, false, not, cond, ◌&&◌}
+use mathlib.Core.Bool.{Bool, true, false, not, ◌&&◌}
 use mathlib.Core.Logic.{◌⊎◌, inl, inr, ⊎_elim}
 use mathlib.Core.List.{List}
 use Prim.Native.Nat.{ℕ, zero, suc, ◌+◌, ◌-◌, ◌≤◌, ◌<◌}
 use native.Mathlib.Decide.{dec_lt}
 use native.Mathlib.Omega.{arith}
 use borrow.Author.Tests.{lt-ltb, le-ltb, ltb-true, le-leb, leb-true, eq-eqb, eqb-true}
-use lib.ListN.{length, get_or, set, length-set, get_or-eq_default}
-use lib.Seq.{get_or-set_same, get_or-set_other}
+use lib.ListN.{length, get_or, get_or-eq_default}
+use lib.Seq.{get_or-set_same}
 use lib.Dec.{eqb, leb, ltb}
-use Rattle.octets.specs.Counting.{count, tabulate}
-use Rattle.octets.specs.Octets.{byte, zeros}
+use Rattle.octets.specs.Counting.{count}
+use Rattle.octets.specs.Octets.{byte}
 use Rattle.ibft_layout.specs.Layout.{Kind, nic, target, kind_of, named_count, slot_count, extra_nics, extra_targets, extra_most, most_words}
 use Rattle.ibft_table.specs.Table.{word_count, extra_words, start_at, used_at, kind_at, index_at, alike, first_slot, slot_of, seated, starts_to, start_in, present_in}
-use Rattle.ibft_table.proofs.SeatLaws.{zero-at, slot-least, seated-length, seated-other, named-at, starts-length, starts-rest}
+use Rattle.ibft_table.proofs.SeatLaws.{seated-length, seated-other, starts-length, starts-rest}
 use Rattle.ibft_table_laws.specs.Facts.{ExtraFacts}
 use Rattle.octets.proofs.CountingLaws.{clash}
 use Rattle.ibft_table_laws.proofs.LayoutLaws.{nic-slot, target-slot}

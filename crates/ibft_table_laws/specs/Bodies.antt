@@ -1,7 +1,6 @@
 -- The flags and fields of a structure's reading: the reading with its strings left out, and its bytes laid out again, from the
 -- flags up to the first string word. Assumes nothing: these are definitions.
 use Rattle.std.specs.Prelude.{ℕ, List, [], ◌∷◌, ◌++◌}
-use Rattle.ibft_layout.specs.Layout.{flags_at}
 use Rattle.octets.specs.Octets.{le16, le64, zeros}
 use Rattle.ibft_readings.specs.Readings.{initiator_in, nic_in, target_in}
 use Rattle.ibft_layout.specs.declared.string_words.StringWords.{StringWords}

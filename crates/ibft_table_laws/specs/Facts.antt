@@ -5,11 +5,11 @@ use Rattle.std.specs.Int.Bits.{bit_and}
 use Rattle.octets.specs.Counting.{count}
 use Rattle.octets.specs.Octets.{byte, word16, word32, part, sum}
 use Rattle.hostname.specs.Hostname.{is_host_name}
-use Rattle.ibft_layout.specs.Layout.{Kind, control, slot_count, named_count, extra_most, least_index, most_words, kind_of, control_at}
-use Rattle.ibft_layout.specs.Layout.{extensions_at, chap_at, entry_count, string_of, ibft_signature, least_length, flags_at}
+use Rattle.ibft_layout.specs.Layout.{Kind, control, named_count, extra_most, least_index, most_words, kind_of, control_at}
+use Rattle.ibft_layout.specs.Layout.{extensions_at, chap_at, entry_count, string_of}
 use Rattle.table_header.specs.Header.{length_of, padded}
 use Rattle.ibft_table.specs.Table.{control_length, control_end_of, word_count, start_at, used_at, kind_at, index_at, end_at, heap_of, alike, starts_of}
-use Rattle.ibft_table.specs.Table.{index_in, start_of, present, end_of, size_of, offset_of, holds_entry}
+use Rattle.ibft_table.specs.Table.{index_in, start_of, end_of, size_of, offset_of, holds_entry}
 
 -- the header of a table with this signature, at least so many bytes lent and of at least this Length
 pub record HeaderFacts (signature least_lent least_length : ℕ) (t : List ℕ) : Type 0 where

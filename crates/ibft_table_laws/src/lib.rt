@@ -1,1 +1,3 @@
+#![tactic(auto)]
+
 // Laws of what an accepted table holds: no code.

@@ -1,6 +1,6 @@
 -- The value of a field as text, and the bytes it has in a record: docs/RECORD-FORMAT.md, Values. Assumes nothing: these are
 -- definitions.
-use Rattle.std.specs.Prelude.{ℕ, ◌+◌, ◌-◌, ◌^◌, List, [], ◌∷◌, ◌++◌, Bool, true, false, cond, ◌||◌, length, take, eqb, leb, ltb}
+use Rattle.std.specs.Prelude.{ℕ, ◌-◌, ◌^◌, List, [], ◌∷◌, ◌++◌, Bool, true, false, cond, ◌||◌, length, take, eqb, leb, ltb}
 use Rattle.std.proofs.Math.Option.{Option, none, some, map}
 use Rattle.octets.specs.Octets.{byte, word16, word64, bytes_at, le16, le64, zeros}
 use Rattle.text.specs.Put.{ascii}

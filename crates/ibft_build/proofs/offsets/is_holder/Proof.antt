@@ -2,7 +2,6 @@
 -- Assumes nothing.
 use mathlib.Core.Path.{sym, ◌∙◌}
 use native.Mathlib.Omega.{arith}
-use borrow.Author.Tests.{not-true, not-false}
 use Rattle.ibft_build.proofs.EntryLaws.{limit-below}
 use Rattle.ibft_build.proofs.PlaceLaws.{sizes-at, sizes-count, size-lies, holder-not, holder-secret, holder-tail}
 use borrow.Author.Rules.{rules}

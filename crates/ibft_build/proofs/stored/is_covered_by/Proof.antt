@@ -2,7 +2,6 @@
 -- none; else the tail decides. Assumes nothing.
 use mathlib.Core.Path.{sym, ◌∙◌}
 use native.Mathlib.Omega.{arith}
-use borrow.Author.Tests.{not-true, not-false}
 use Rattle.ibft_build.proofs.EntryLaws.{limit-below, wanted-at, wanted-count, lies_at}
 use Rattle.ibft_build.proofs.CoverLaws.{covered-short, covered-late, covered-secret, covered_tail}
 use borrow.Author.Rules.{rules}

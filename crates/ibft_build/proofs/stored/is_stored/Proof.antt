@@ -2,7 +2,6 @@
 -- Assumes nothing.
 use mathlib.Core.Path.{sym, ◌∙◌}
 use native.Mathlib.Omega.{arith}
-use borrow.Author.Tests.{not-true, not-false}
 use Rattle.ibft_build.proofs.EntryLaws.{limit-below, wanted-at, wanted-count, lies_at}
 use Rattle.ibft_build.proofs.CoverLaws.{stored-missing, stored-secret, stored_is}
 use borrow.Author.Rules.{rules}

@@ -1,7 +1,6 @@
 -- `entry_differs` meets its contract: missing against present is a difference; where both are there their bytes are compared.
 -- Assumes nothing.
 use mathlib.Core.Path.{refl, sym, ap₂, ◌∙◌}
-use borrow.Author.Tests.{not-true, not-false}
 use Rattle.ibft_compare.specs.Differences.{unequal}
 use Rattle.ibft_compare.specs.Walk.{only_one}
 use borrow.Author.Rules.{rules}

@@ -1,7 +1,6 @@
 -- `entry_stretch` meets its contract: the entry's two words say where its bytes stand. Assumes nothing.
 use mathlib.Core.Path.{sym, ap, ap₂, ◌∙◌}
 use Prim.Native.Nat.{ℕ, ◌+◌}
-use borrow.Author.Tests.{not-true, not-false}
 use Rattle.octets.specs.Octets.{word16}
 use Rattle.ibft_table.specs.Table.{size_in, offset_in}
 use Rattle.ibft_compare.specs.Differences.{stretch}

@@ -37,9 +37,9 @@ returns-3 c =
     let a = c.args.a in
     let nonzero = sym c.all_zero.ensures ∙ c.if-all_zero.false in
     both (elim c.else-a.branch [
-      else-a-via-then-a+then-a-2+else-all_zero-2 w ↦ simp (nonzero, sym w.all_zero-then-a-2.ensures ∙ w.if-all_zero-2.false)
-    | else-a-via-then-a+else-a-2 w ↦ simp (nonzero, ne_eqb (byte a 11) 0xFF w.if-a-2.false, and-false)
-    | else-a-via-else-a w ↦ simp (nonzero, ne_eqb (byte a 10) 0xFF w.if-a.false, and-false)
+      | else-a-via-then-a+then-a-2+else-all_zero-2 w ↦ simp (nonzero, sym w.all_zero-then-a-2.ensures ∙ w.if-all_zero-2.false)
+      | else-a-via-then-a+else-a-2 w ↦ simp (nonzero, ne_eqb (byte a 11) 0xFF w.if-a-2.false, and-false)
+      | else-a-via-else-a w ↦ simp (nonzero, ne_eqb (byte a 10) 0xFF w.if-a.false, and-false)
     ])
 
 pub address_kind_spec : {M : Type 1} → statement M

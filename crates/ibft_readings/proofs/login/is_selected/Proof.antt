@@ -1,6 +1,5 @@
 -- `is_selected` meets its contract: a target that is not valid is not selected, whatever its flags. Assumes nothing.
 use mathlib.Core.Path.{sym, ◌∙◌}
-use borrow.Author.Tests.{not-true, not-false}
 use Rattle.ibft_readings.specs.Login.{selected}
 use borrow.Author.Rules.{rules}
 use Rattle.ibft_readings.proofs.login.is_selected.Statement.{statement}

@@ -36,14 +36,14 @@ loop-again c =
     let l = c.loop-n in (
       search rules,
       elim c.if-n-lead.branch [
-        then-n-lead+then-is_valid w ↦ w.order-is ∙ w.then-order.ensures ∙ ap₂ behind l.invariant.1 w.target_index.ensures
-          ∙ sym (placed-next s t Accepted l.n (omega arith) (λ e. omega arith) (sym w.is_valid.ensures ∙ w.if-is_valid.true))
-      | else-n-lead w ↦
-          let same : order_to s t (l.n + 1) ≡ order_to s t l.n = elim w.else-n-lead.branch [
-            else-n-lead-via-then-n-lead+else-is_valid u ↦ order-invalid s t l.n (sym u.is_valid.ensures ∙ u.if-is_valid.false)
-          | else-n-lead-via-else-n-lead u ↦ order-lead s t l.n (omega arith)
-          ] in
-          w.order-is ∙ l.invariant.1 ∙ ap (placed Accepted) (sym same)
+        | then-n-lead+then-is_valid w ↦ w.order-is ∙ w.then-order.ensures ∙ ap₂ behind l.invariant.1 w.target_index.ensures
+            ∙ sym (placed-next s t Accepted l.n (omega arith) (λ e. omega arith) (sym w.is_valid.ensures ∙ w.if-is_valid.true))
+        | else-n-lead w ↦
+            let same : order_to s t (l.n + 1) ≡ order_to s t l.n = elim w.else-n-lead.branch [
+              | else-n-lead-via-then-n-lead+else-is_valid u ↦ order-invalid s t l.n (sym u.is_valid.ensures ∙ u.if-is_valid.false)
+              | else-n-lead-via-else-n-lead u ↦ order-lead s t l.n (omega arith)
+            ] in
+            w.order-is ∙ l.invariant.1 ∙ ap (placed Accepted) (sym same)
       ],
     )
 

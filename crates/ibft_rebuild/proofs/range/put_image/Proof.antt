@@ -5,7 +5,6 @@ use Prim.Native.Nat.{ℕ}
 use native.Mathlib.Omega.{arith}
 use lib.ListN.{length}
 use Rattle.octets.proofs.ReadLaws.{part-most}
-use Rattle.ibft_layout.specs.Layout.{kind_of}
 use Rattle.ibft_layout.specs.declared.shape.Shape.{Shape}
 use Rattle.ibft_table.specs.Table.{start_in}
 use Rattle.ibft_table_laws.proofs.LayoutLaws.{slot-fits}

@@ -13,17 +13,16 @@ put-slot-marks-requires c κs =
     omega (arith, c.put_front-marks.ensures.ends, front-most c.args.table.now)
 
 put-entry-marks-requires : tie.Need-put_entry_marks-images-requires
-put-entry-marks-requires c κs =
-    (
-      omega (
-        arith,
-        c.put_front-marks.ensures.ends,
-        front-most c.args.table.now,
-        c.put_slot_marks-entry_marks.ensures.ends,
-        slot-marks-length c.args.starts.now c.args.table.now,
-      ),
-      omega arith,
-    )
+put-entry-marks-requires c κs = (
+  omega (
+    arith,
+    c.put_front-marks.ensures.ends,
+    front-most c.args.table.now,
+    c.put_slot_marks-entry_marks.ensures.ends,
+    slot-marks-length c.args.starts.now c.args.table.now,
+  ),
+  omega arith,
+)
 
 put-images-requires : tie.Need-put_images-counts-requires
 put-images-requires c κs =
@@ -66,42 +65,40 @@ add-put-extras c =
     )
 
 put-extras-requires : tie.Need-put_extras-targets-requires
-put-extras-requires c κs =
-    (
-      omega (
-        arith,
-        c.put_front-marks.ensures.ends,
-        front-most c.args.table.now,
-        c.put_slot_marks-entry_marks.ensures.ends,
-        slot-marks-length c.args.starts.now c.args.table.now,
-        c.put_entry_marks-images.ensures.ends,
-        marks-length c.args.starts.now c.args.table.now 0 named_entries,
-        c.put_images-counts.ensures.ends,
-        images-most c.args.starts.now c.args.table.now,
-      ),
-      omega arith,
-      nic-entries,
-    )
+put-extras-requires c κs = (
+  omega (
+    arith,
+    c.put_front-marks.ensures.ends,
+    front-most c.args.table.now,
+    c.put_slot_marks-entry_marks.ensures.ends,
+    slot-marks-length c.args.starts.now c.args.table.now,
+    c.put_entry_marks-images.ensures.ends,
+    marks-length c.args.starts.now c.args.table.now 0 named_entries,
+    c.put_images-counts.ensures.ends,
+    images-most c.args.starts.now c.args.table.now,
+  ),
+  omega arith,
+  nic-entries,
+)
 
 put-extras-requires-2 : tie.Need-put_extras-requires
-put-extras-requires-2 c κs =
-    (
-      omega (
-        arith,
-        c.put_front-marks.ensures.ends,
-        front-most c.args.table.now,
-        c.put_slot_marks-entry_marks.ensures.ends,
-        slot-marks-length c.args.starts.now c.args.table.now,
-        c.put_entry_marks-images.ensures.ends,
-        marks-length c.args.starts.now c.args.table.now 0 named_entries,
-        c.put_images-counts.ensures.ends,
-        images-most c.args.starts.now c.args.table.now,
-        c.put_extras-targets.ensures.ends,
-        extras-most c.args.starts.now c.args.table.now extra_nics (omega arith),
-      ),
-      omega arith,
-      target-entries,
-    )
+put-extras-requires-2 c κs = (
+  omega (
+    arith,
+    c.put_front-marks.ensures.ends,
+    front-most c.args.table.now,
+    c.put_slot_marks-entry_marks.ensures.ends,
+    slot-marks-length c.args.starts.now c.args.table.now,
+    c.put_entry_marks-images.ensures.ends,
+    marks-length c.args.starts.now c.args.table.now 0 named_entries,
+    c.put_images-counts.ensures.ends,
+    images-most c.args.starts.now c.args.table.now,
+    c.put_extras-targets.ensures.ends,
+    extras-most c.args.starts.now c.args.table.now extra_nics (omega arith),
+  ),
+  omega arith,
+  target-entries,
+)
 
 returns : tie.Need-returns
 returns c =

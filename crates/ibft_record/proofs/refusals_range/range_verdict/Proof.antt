@@ -3,7 +3,6 @@
 use mathlib.Core.Path.{◌≡◌, sym, ap, ◌∙◌}
 use Prim.Native.Nat.{ℕ}
 use lib.ListN.{drop}
-use borrow.Author.Tests.{not-true, not-false}
 use Rattle.table_header.specs.Verdict.{first_of}
 use Rattle.table_header.specs.Header.{padded}
 use Rattle.table_header.specs.declared.verdict.Verdict.{Verdict}

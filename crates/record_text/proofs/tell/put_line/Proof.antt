@@ -1,6 +1,5 @@
 -- `put_line` meets its contract: the comment in place of a secret, or name, space, value and line feed, one behind another.
 -- Assumes nothing.
-use borrow.Author.Tests.{not-true, not-false}
 use Rattle.text.proofs.PutLaws.{puts-same, puts-append}
 use Rattle.record_text.specs.Tell.{line_with}
 use Rattle.record_text.proofs.TellLaws.{line-hidden, line-untold, line-told}

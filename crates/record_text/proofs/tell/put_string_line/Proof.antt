@@ -2,7 +2,6 @@
 use mathlib.Core.Path.{◌≡◌, sym, ap, ◌∙◌}
 use Prim.Native.Nat.{◌+◌, ◌-◌}
 use native.Mathlib.Omega.{arith}
-use borrow.Author.Tests.{not-true, not-false}
 use Rattle.ibft_layout.specs.Layout.{first_entry}
 use Rattle.ibft_layout.proofs.LayoutLaws.{first-most}
 use Rattle.text.proofs.PutLaws.{puts-same}

@@ -2,7 +2,7 @@
 -- nothing.
 use mathlib.Core.Path.{refl}
 use native.Mathlib.Omega.{arith}
-use borrow.Author.Tests.{not-true, not-false, eq-eqb, ne_eqb}
+use borrow.Author.Tests.{eq-eqb, ne_eqb}
 use Rattle.ibft_compare.specs.Walk.{counted}
 use borrow.Author.Rules.{rules}
 use Rattle.ibft_compare.proofs.walk.Met.then.Statement.{statement}
