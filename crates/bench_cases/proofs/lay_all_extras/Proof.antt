@@ -6,12 +6,13 @@ use borrow.Author.Rules.{rules}
 use Rattle.bench_cases.proofs.lay_all_extras.Statement.{statement}
 use Rattle.bench_cases.proofs.lay_all_extras.Tie as tie
 
-abbrev invariant-loop : tie.invariant-loop
+abbrev invariant-loop : tie.invariant-loop-i
 invariant-loop range₀ i₀ range i = (i ≤ 6) × (length range ≡ length range₀)
 
-abbrev decreases-loop : tie.decreases-loop
+abbrev decreases-loop : tie.decreases-loop-i
 decreases-loop range₀ i₀ range i = 6 - i
 
-pub lay-all-extras-spec : {M : Type 1} → statement M
-lay-all-extras-spec = tie.close (tie.spec invariant-loop decreases-loop (search rules) (search rules) (search rules) (search rules)
-    (search rules) (search rules) (search rules) (search rules) (search rules) (search rules) (search rules) (search rules))
+pub lay_all_extras_spec : {M : Type 1} → statement M
+lay_all_extras_spec = tie.close (tie.spec invariant-loop decreases-loop (search rules) (search rules) (search rules)
+    (search rules) (search rules) (search rules) (search rules) (search rules) (search rules) (search rules)
+    (search rules) (search rules))

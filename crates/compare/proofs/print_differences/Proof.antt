@@ -4,11 +4,12 @@ use borrow.Author.Rules.{rules}
 use Rattle.compare.proofs.print_differences.Statement.{statement}
 use Rattle.compare.proofs.print_differences.Tie as tie
 
-abbrev invariant-loop : tie.invariant-loop
+abbrev invariant-loop : tie.invariant-loop-k
 invariant-loop left right count hide k₀ k = k ≤ count
 
-abbrev decreases-loop : tie.decreases-loop
+abbrev decreases-loop : tie.decreases-loop-k
 decreases-loop left right count hide k₀ k = count - k
 
-pub print-differences-spec : {M : Type 1} → statement M
-print-differences-spec = tie.close (tie.spec invariant-loop decreases-loop (search rules) (search rules) (search rules) (search rules) (search rules) (search rules))
+pub print_differences_spec : {M : Type 1} → statement M
+print_differences_spec = tie.close (tie.spec invariant-loop decreases-loop (search rules) (search rules)
+    (search rules) (search rules) (search rules) (search rules))
