@@ -61,7 +61,7 @@ module _ (r s : List ℕ) (n : ℕ) where
       go (Refused e) p = inl (e, record { contents = p; numbered = contents-numbered r s e p; verdict = append-refused (contents_tests r s) _ e p })
       go Accepted p = inr (more p (ltb n (length_built (content_given r s))) refl)
 
-  pub answer-bound : (answer_of r s n).length ≤ largest_length
+  pub answer-bound : (answer_of r s n).length ≤ 13710
   unfolding answer_of answer_from
   answer-bound =
       ⊎_elim (λ w. none w.0 w.1.verdict)
@@ -69,7 +69,7 @@ module _ (r s : List ℕ) (n : ℕ) where
       (λ w. omega (arith, ap (λ (v : Verdict). (answer_from r s v).length) w.verdict, length-bound (content_given r s) (contents-good r s w.contents))))
       outcome
     where
-      none : (e : Refusal) → build_verdict r s n ≡ Refused e → (answer_of r s n).length ≤ largest_length
+      none : (e : Refusal) → build_verdict r s n ≡ Refused e → (answer_of r s n).length ≤ 13710
       none e v = omega (arith, ap (λ (v : Verdict). (answer_from r s v).length) v)
 
   pub answer-placed : (answer_of r s n).refusal.place < 256
