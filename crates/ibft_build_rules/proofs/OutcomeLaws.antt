@@ -18,7 +18,7 @@ use Rattle.table_header.specs.declared.verdict.Verdict.TheVariants.{Accepted, Re
 use Rattle.table_header.proofs.VerdictLaws.{accept-none, accept-cons, fail-cons, append-accepted, append-refused}
 use Rattle.ibft_build_rules.specs.RecordRange.{content_given}
 use Rattle.ibft_build_rules.specs.Refusals.{contents_tests, contents_verdict}
-use Rattle.ibft_build_rules.specs.Plan.{length_built, largest_length}
+use Rattle.ibft_build_rules.specs.Plan.{length_built}
 use Rattle.ibft_build_rules.specs.Build.{build_verdict, answer_from, answer_of}
 use Rattle.ibft_build_rules.proofs.BoundLaws.{length-bound}
 use Rattle.ibft_build_rules.proofs.GoodLaws.{contents-good}
