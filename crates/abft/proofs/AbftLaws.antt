@@ -19,8 +19,7 @@ use Rattle.scan.specs.Scan.{abft}
 use Rattle.table_header.specs.Header.{length_of, padded, header_tests, reserved_tests, headed, sealed}
 use Rattle.table_header.specs.Write.{written_from, room_from}
 use Rattle.table_header.specs.declared.verdict.Refusal.{Refusal}
-use Rattle.table_header.specs.declared.verdict.Verdict.{Verdict}
-use Rattle.table_header.specs.declared.verdict.Verdict.TheVariants.{Accepted, Refused}
+use Rattle.table_header.specs.Verdict.{Verdict, Accepted, Refused}
 use Rattle.table_header.specs.declared.write.Written.{Written}
 use Rattle.table_header.proofs.VerdictLaws.{append-accepted}
 use Rattle.table_header.proofs.HeaderLaws.{reserved-zeros}

@@ -5,7 +5,7 @@ use mathlib.Core.Path.{◌≡◌}
 use mathlib.Core.List.{List}
 use Prim.Native.Nat.{ℕ}
 use native.Mathlib.Omega.{arith}
-use Rattle.table_header.specs.declared.verdict.Verdict.{Verdict}
+use Rattle.table_header.specs.Verdict.{Verdict}
 use Rattle.table_header.proofs.VerdictLaws.{every_append}
 use Rattle.table_header.proofs.JudgesLaws.{reserved-plain, judges}
 use Rattle.abft.specs.Abft.{check_tests, check_of}

@@ -6,8 +6,7 @@ use Prim.Native.Nat.{ℕ}
 use native.Mathlib.Omega.{arith}
 use Rattle.octets.specs.Octets.{bytes_at}
 use Rattle.scan.specs.Scan.{abft}
-use Rattle.table_header.specs.Verdict.{refusal_of}
-use Rattle.table_header.specs.declared.verdict.Verdict.{Verdict}
+use Rattle.table_header.specs.Verdict.{refusal_of, Verdict}
 use Rattle.table_header.proofs.VerdictLaws.{every_append}
 use Rattle.table_header.proofs.PlaceLaws.{Below, every-header, every-reserved, verdict-below, written_below}
 use Rattle.abft.specs.Abft.{check_tests, check_of, write_verdict, written_of}

@@ -3,10 +3,9 @@
 use Rattle.std.specs.Prelude.{ℕ, List, ◌∷◌, ◌++◌, length}
 use Rattle.octets.specs.Octets.{byte, word16, bytes_at, zeros}
 use Rattle.scan.specs.Scan.{abft}
-use Rattle.table_header.specs.Verdict.{Test, first_of, refusal_of, shown}
+use Rattle.table_header.specs.Verdict.{Test, first_of, refusal_of, shown, Verdict}
 use Rattle.table_header.specs.Header.{header_tests, reserved_tests, headed, sealed}
 use Rattle.table_header.specs.Write.{write_tests, written_from, room_from}
-use Rattle.table_header.specs.declared.verdict.Verdict.{Verdict}
 use Rattle.table_header.specs.declared.write.Written.{Written}
 use Rattle.abft.specs.declared.fields.Abft.{Abft}
 use Rattle.abft.specs.declared.reading.AbftReading.{AbftReading}

@@ -8,13 +8,7 @@ use table_header::verdict::Verdict;
 pub fn check(t: &[u8]) -> Verdict
     ensures { Check t.now result }
 {
-    let v = check_header(t, Abft::SIGNATURE, Abft::LENGTH as usize, Abft::LENGTH);
-    if let Verdict::Refused(_) = v {
-        return v;
-    }
-    let v = check_reserved(t, 0, Abft::RESERVED_AT, Abft::RESERVED_SIZE);
-    if let Verdict::Refused(_) = v {
-        return v;
-    }
+    check_header(t, Abft::SIGNATURE, Abft::LENGTH as usize, Abft::LENGTH)?;
+    check_reserved(t, 0, Abft::RESERVED_AT, Abft::RESERVED_SIZE)?;
     check_reserved(t, 0, Abft::SECOND_RESERVED_AT, 1)
 }

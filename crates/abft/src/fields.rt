@@ -2,7 +2,7 @@
 ghost use Rattle.std.specs.Prelude.{◌≡◌};
 ghost use Rattle.abft.specs.Abft.{record_of};
 
-use octets::read::{byte_at, eight_at, six_at, u16_at};
+use octets::read::{array_at, byte_at, u16_at};
 use scan::Family;
 use table_header::header::{OEM_ID_AT, OEM_TABLE_ID_AT};
 
@@ -40,11 +40,11 @@ impl Abft {
         ensures { result ≡ record_of t.now }
     {
         Abft {
-            oem_id: six_at(t, OEM_ID_AT as usize),
-            oem_table_id: eight_at(t, OEM_TABLE_ID_AT as usize),
+            oem_id: array_at(t, OEM_ID_AT as usize),
+            oem_table_id: array_at(t, OEM_TABLE_ID_AT as usize),
             shelf: u16_at(t, Self::SHELF_AT as usize),
             slot: byte_at(t, Self::SLOT_AT as usize),
-            mac: six_at(t, Self::MAC_AT as usize),
+            mac: array_at(t, Self::MAC_AT as usize),
         }
     }
 }

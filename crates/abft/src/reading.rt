@@ -6,6 +6,7 @@ use crate::check::check;
 use crate::fields::Abft;
 use table_header::verdict::{Refusal, refusal_of, shown_of};
 
+// (Fields beside a refusal, and no Result: the promises and the exports for C give a refused reading with every field 0.)
 #[derive(Clone, Copy)]
 pub struct AbftReading {
     pub refusal: Refusal,

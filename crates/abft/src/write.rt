@@ -7,9 +7,8 @@ ghost use Rattle.abft.specs.Abft.{table_of};
 ghost use Rattle.abft.specs.Promises.{Write};
 
 use crate::fields::Abft;
-use octets::read::{byte_at, six_at};
+use octets::read::{array_at, byte_at};
 use octets::write::{put_byte, put_bytes, put_zeros};
-use table_header::verdict::Verdict;
 use table_header::write::{Written, check_write, put_checksum, put_header, written_of};
 
 // The bytes of shelf and slot, as the image has them.
@@ -36,7 +35,7 @@ fn put_fields(room: &mut [u8], image: &[u8])
     let target = shelf_and_slot(image);
     put_bytes(room, Abft::SHELF_AT as usize, &target);
     put_byte(room, Abft::SECOND_RESERVED_AT as usize, 0);
-    let mac = six_at(image, Abft::MAC_AT as usize);
+    let mac = array_at::<6>(image, Abft::MAC_AT as usize);
     put_bytes(room, Abft::MAC_AT as usize, &mac);
 }
 
@@ -55,7 +54,7 @@ pub fn write(image: &[u8], room: &mut [u8]) -> Written
     ensures { Write image.now room.old result room.new }
 {
     let verdict = check_write(image, Abft::LENGTH, room.len());
-    if let Verdict::Refused(_) = verdict {
+    if let Err(_) = verdict {
         return written_of(verdict, Abft::LENGTH);
     }
     put_table(room, image);

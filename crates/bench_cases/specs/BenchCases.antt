@@ -1,6 +1,5 @@
 -- Cases 1 to 12 of RULES.md, Worked cases, as one list under one theorem. Each row is a question and the answer given there.
-use Rattle.std.specs.Prelude.{◌≡◌, refl, List, [], ◌∷◌, ◌++◌, map, cond, ℕ, ◌-◌, length, eqb}
-use Rattle.std.proofs.Math.Option.{none, some}
+use Rattle.std.specs.Prelude.{◌≡◌, refl, List, [], ◌∷◌, ◌++◌, map, cond, ℕ, ◌-◌, length, eqb, None, Some}
 use Rattle.octets.specs.Counting.{sum_to, tabulate, gather}
 use Rattle.octets.specs.Octets.{le16, zeros}
 use Rattle.string_heap.specs.Stored.{Entry}
@@ -15,12 +14,12 @@ use Rattle.ibft_build_rules.specs.Computing.{computing}
 -- ---- a record range for a bench record: OEM fields and Control's flags zero; the slots marked 1 have flags 1 and fields zero
 
 mark_of : Entry → ℕ
-mark_of none = 0
-mark_of (some a) = 1
+mark_of None = 0
+mark_of (Some a) = 1
 
 bytes_in : Entry → List ℕ
-bytes_in none = []
-bytes_in (some a) = a
+bytes_in None = []
+bytes_in (Some a) = a
 
 -- the strings one after another, and where entry n's start
 strings_of : (ℕ → Entry) → List ℕ
@@ -45,8 +44,8 @@ pub record Given : Type 0 where
 
 -- entry n of those given
 find : List Given → ℕ → Entry
-find [] n = none
-find (g ∷ gs) n = cond (eqb g.number n) (some g.bytes) (find gs n)
+find [] n = None
+find (g ∷ gs) n = cond (eqb g.number n) (Some g.bytes) (find gs n)
 
 pub data Question : Type 0 where
   -- build a record with these slots marked and these entries, in a room of so many bytes

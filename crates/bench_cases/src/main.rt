@@ -15,7 +15,7 @@ use ibft_layout::target::Target;
 use ibft_table::check::check;
 use octets::read::{byte_at, part};
 use octets::write::{put_byte, put_bytes, put_u16};
-use table_header::verdict::Verdict;
+use std::fmt;
 
 // Where the record range has its marks and images.
 const SLOT_MARKS: usize = MARKS_AT as usize;
@@ -26,28 +26,30 @@ const INITIATOR: usize = INITIATOR_AT as usize;
 
 const TARGET_0: usize = TARGET_0_AT as usize;
 
-fn print_number(before: &[u8], n: u64) {
-    io::write_all(1, before);
-    io::print_decimal(1, n);
-}
+// A build's answer, as a line says it.
+#[derive(Clone, Copy)]
+struct Answer(Built);
 
-fn print_built(name: &[u8], built: Built) {
-    io::write_all(1, name);
-    let refusal = built.refusal;
-    if refusal.number == 0 {
-        print_number(b": built, Length ", built.length as u64);
-    } else {
-        print_number(b": refused ", refusal.number as u64);
-        print_number(b" ", refusal.place as u64);
+impl fmt::Display for Answer {
+    fn fmt<W: fmt::Write>(&self, f: &mut fmt::Formatter<W>) -> fmt::Result {
+        let refusal = self.0.refusal;
+        if refusal.number == 0 {
+            return write!(f, "built, Length {}", self.0.length);
+        }
+        write!(f, "refused {} {}", refusal.number, refusal.place)
     }
 }
 
-fn end_line() {
-    io::write_all(1, b"\n");
+// What the check says of a room, as a line says it.
+fn checked(t: &[u8]) -> &'static str {
+    match check(t) {
+        Ok(()) => "check accepts",
+        Err(_) => "check refuses",
+    }
 }
 
 // The initiator alone, its name so many letters.
-fn long_name(name: &[u8], letters: u16) {
+fn long_name(rt: &impl Print, letters: u16) -> std::io::Result<()> {
     let mut range = [0u8; BASE_SIZE as usize];
     put_byte(&mut range, SLOT_MARKS, 1);
     put_byte(&mut range, ENTRY_MARKS, 1);
@@ -55,8 +57,7 @@ fn long_name(name: &[u8], letters: u16) {
     let strings = [97u8; 256];
     let mut room = [0u8; 512];
     let built = build(&range, &strings, &mut room);
-    print_built(name, built);
-    end_line();
+    println!(rt; "initiator name of {letters}: {}", Answer(built))
 }
 
 // Case 5's record: Target 0 alone, flags 1, CHAP name `depot7`, reverse name `7`, which is the last letter of that.
@@ -70,59 +71,33 @@ fn lay_case_5(range: &mut [u8]) {
     put_u16(range, TARGET_0 + 48, 5);
 }
 
-fn same(a: &[u8], b: &[u8], n: usize) -> bool {
-    let mut i = 0;
-    while i < n {
-        if byte_at(a, i) != byte_at(b, i) {
-            return false;
-        }
-        i += 1;
-    }
-    true
-}
-
-fn print_same(text: &[u8], equal: bool) {
-    io::write_all(1, text);
-    if equal {
-        io::write_all(1, b"yes");
-    } else {
-        io::write_all(1, b"no");
-    }
-}
-
-fn print_check(t: &[u8]) {
-    match check(t) {
-        Verdict::Accepted => {
-            io::write_all(1, b", check accepts");
-        }
-        Verdict::Refused(_) => {
-            io::write_all(1, b", check refuses");
-        }
-    }
-}
-
 // Case 5 into this room: the answer, whether the room then holds the table on standard input, its bytes at 0 and 133 (0 where
 // it has none), and what the check says of it.
-fn case_5(name: &[u8], table: &[u8], room: &mut [u8]) {
+fn case_5(rt: &impl Print, table: &[u8], room: &mut [u8]) -> std::io::Result<()> {
     let mut range = [0u8; BASE_SIZE as usize];
     lay_case_5(&mut range);
+    let size = room.len();
     let built = build(&range, b"depot7", room);
-    print_built(name, built);
-    print_same(b", the table of show: ", same(room, table, 133));
-    print_number(b", byte 0: ", byte_at(room, 0) as u64);
-    print_number(b", byte 133: ", byte_at(room, 133) as u64);
-    print_check(room);
-    end_line();
+    print!(rt; "case 5 into {size}: {}", Answer(built))?;
+    let same = if part(room, 0, 133) == part(table, 0, 133) {
+        "yes"
+    } else {
+        "no"
+    };
+    print!(rt; ", the table of show: {same}")?;
+    print!(rt;
+        ", byte 0: {}, byte 133: {}",
+        byte_at(room, 0),
+        byte_at(room, 133)
+    )?;
+    println!(rt; ", {}", checked(room))
 }
 
 // Rooms of 132, 133 and 200 bytes, filled with 170.
-fn case_5_rooms(table: &[u8]) {
-    let mut small = [170u8; 132];
-    case_5(b"case 5 into 132", table, &mut small);
-    let mut exact = [170u8; 133];
-    case_5(b"case 5 into 133", table, &mut exact);
-    let mut large = [170u8; 200];
-    case_5(b"case 5 into 200", table, &mut large);
+fn case_5_rooms(rt: &impl Print, table: &[u8]) -> std::io::Result<()> {
+    case_5(rt, table, &mut [170u8; 132])?;
+    case_5(rt, table, &mut [170u8; 133])?;
+    case_5(rt, table, &mut [170u8; 200])
 }
 
 // Entry n of the largest record has four labels of its own letter, small or capital.
@@ -182,37 +157,35 @@ fn lay_all_extras(range: &mut [u8]) {
 }
 
 // A record into a room: the answer, and what the check says of the room.
-fn print_large(name: &[u8], range: &[u8], strings: &[u8], room: &mut [u8]) {
-    print_built(name, build(range, strings, room));
-    print_check(room);
-    end_line();
+fn show_large(
+    rt: &impl Print,
+    name: &str,
+    range: &[u8],
+    strings: &[u8],
+    room: &mut [u8],
+) -> std::io::Result<()> {
+    let size = room.len();
+    let built = build(range, strings, room);
+    println!(rt; "{name} into {size}: {}, {}", Answer(built), checked(room))
 }
 
 // The largest record without extras, into as many bytes as it takes and into one less.
-fn largest_named() {
+fn largest_named(rt: &impl Print) -> std::io::Result<()> {
+    let name = "largest record without extras";
     let mut range = [0u8; BASE_SIZE as usize];
     let mut strings = [0u8; 3328];
     let marks = [1u8; 18];
     put_bytes(&mut range, SLOT_MARKS, &marks);
     lay_entries(&mut range, &mut strings, 13);
     let mut exact = [0u8; 3702];
-    print_large(
-        b"largest record without extras into 3702",
-        &range,
-        &strings,
-        &mut exact,
-    );
+    show_large(rt, name, &range, &strings, &mut exact)?;
     let mut small = [0u8; 3701];
-    print_large(
-        b"largest record without extras into 3701",
-        &range,
-        &strings,
-        &mut small,
-    );
+    show_large(rt, name, &range, &strings, &mut small)
 }
 
 // The largest record there is.
-fn largest() {
+fn largest(rt: &impl Print) -> std::io::Result<()> {
+    let name = "largest record";
     let mut range = [0u8; LARGEST_SIZE as usize];
     let mut strings = [0u8; 12544];
     let marks = [1u8; 18];
@@ -220,18 +193,17 @@ fn largest() {
     lay_all_extras(&mut range);
     lay_entries(&mut range, &mut strings, 49);
     let mut exact = [0u8; LARGEST_LENGTH as usize];
-    print_large(b"largest record into 13710", &range, &strings, &mut exact);
+    show_large(rt, name, &range, &strings, &mut exact)?;
     let mut small = [0u8; 13709];
-    print_large(b"largest record into 13709", &range, &strings, &mut small);
+    show_large(rt, name, &range, &strings, &mut small)
 }
 
-fn main() {
+fn main(rt: HostRuntime) -> std::io::Result<()> {
     let mut input = io::buffer();
     let n = io::read_full(0, &mut input);
-    let table = part(&input, 0, n);
-    long_name(b"initiator name of 223", 223);
-    long_name(b"initiator name of 224", 224);
-    case_5_rooms(table);
-    largest_named();
-    largest();
+    long_name(&rt, 223)?;
+    long_name(&rt, 224)?;
+    case_5_rooms(&rt, part(&input, 0, n))?;
+    largest_named(&rt)?;
+    largest(&rt)
 }

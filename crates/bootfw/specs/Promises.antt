@@ -3,9 +3,8 @@ use Rattle.std.specs.Prelude.{List, ℕ, length}
 use Rattle.scan.specs.Scan.{scan_of}
 use Rattle.scan.specs.Promises.{Promise}
 use Rattle.scan.specs.declared.Family.{Family}
-use Rattle.table_header.specs.Verdict.{Test, refusal_of}
+use Rattle.table_header.specs.Verdict.{Test, refusal_of, Verdict}
 use Rattle.table_header.specs.Promises.{Judges}
-use Rattle.table_header.specs.declared.verdict.Verdict.{Verdict}
 use Rattle.table_header.specs.declared.write.Written.{Written}
 use Rattle.ibft_build_rules.specs.Build.{answer_of}
 use Rattle.ibft_build_rules.specs.Promises.{Promise as Build}

@@ -4,157 +4,111 @@
 // refused, 0 the left and 1 the right. `compare hide-secrets` shows no secret.
 #![tactic(auto)]
 
-ghost use Rattle.io.specs.Counts.{IsPrefixLen};
-
+use bench_io::{LONGEST_TABLE, argument, hides};
 use difference_text::{LINE_SIZE, put_difference};
 use ibft_compare::compare::{compare, difference};
-use notation::number::{Number, read_number};
+use notation::number::read_number;
 use octets::read::part;
 use refusal_text::{SIDE_LINE_SIZE, put_side_refusal};
-use std::env::Env;
 use table_header::verdict::Refusal;
-use text::split::{index_of, same};
-
-const STDIN: i32 = 0;
-
-const STDOUT: i32 = 1;
-
-const STDERR: i32 = 2;
-
-// As much of a table as `show` looks at.
-const LONGEST_TABLE: usize = 16384;
+use text::split::index_of;
 
 // The largest size that is read as a number, and the line feed behind it is one of the first bytes.
 const LARGEST_SIZE: u64 = 4294967295;
 
 const LONGEST_SIZE_LINE: usize = 16;
 
-fn print(text: &[u8]) {
-    io::write_all(STDOUT, text);
-}
-
-fn say(text: &[u8]) {
-    io::write_all(STDERR, text);
-}
-
 // ---- answers
 
-fn print_refusal(refusal: Refusal, side: u8) {
+fn print_refusal(rt: &impl Print, refusal: Refusal, side: u8) -> std::io::Result<()> {
     let mut room = [0u8; SIDE_LINE_SIZE];
     let end = put_side_refusal(&mut room, 0, refusal, side);
-    print(part(&room, 0, end));
+    rt.write_all(part(&room, 0, end))
 }
 
 // (No line is longer than the room, since no field and no string of an accepted table has more than 255 bytes: `told-fits`.)
-fn print_difference(left: &[u8], right: &[u8], k: u16, hide: bool) {
+fn print_difference(
+    rt: &impl Print,
+    left: &[u8],
+    right: &[u8],
+    k: u16,
+    hide: bool,
+) -> std::io::Result<()> {
     let mut room = [0u8; LINE_SIZE];
     let end = put_difference(&mut room, 0, left, right, difference(left, right, k), hide);
-    print(part(&room, 0, end));
+    rt.write_all(part(&room, 0, end))
 }
 
-fn print_differences(left: &[u8], right: &[u8], count: u16, hide: bool) {
-    let mut k: u16 = 0;
-    while k < count {
-        print_difference(left, right, k, hide);
-        k += 1;
+fn print_count(rt: &impl Print, count: u16) -> std::io::Result<()> {
+    match count {
+        0 => println!(rt; "no difference"),
+        1 => println!(rt; "1 difference"),
+        _ => println!(rt; "{count} differences"),
     }
 }
 
-fn print_count(count: u16) {
-    if count == 0 {
-        print(b"no difference\n");
-        return;
-    }
-    io::print_decimal(STDOUT, count as u64);
-    if count == 1 {
-        print(b" difference\n");
-        return;
-    }
-    print(b" differences\n");
-}
-
-fn compare_tables(left: &[u8], right: &[u8], hide: bool) {
+fn compare_tables(rt: &impl Print, left: &[u8], right: &[u8], hide: bool) -> std::io::Result<()> {
     let compared = compare(left, right);
     let refusal = compared.refusal;
     if refusal.number != 0 {
-        print_refusal(refusal, compared.side);
-        return;
+        return print_refusal(rt, refusal, compared.side);
     }
-    print_differences(left, right, compared.count, hide);
-    print_count(compared.count);
+    for k in 0..compared.count {
+        print_difference(rt, left, right, k, hide)?;
+    }
+    print_count(rt, compared.count)
 }
 
 // ---- the input
 
-fn say_no_size() {
-    say(b"compare: the input does not start with the size of the left table\n");
+fn say_no_size(rt: &impl Eprint) -> std::io::Result<()> {
+    eprintln!(rt; "compare: the input does not start with the size of the left table")
 }
 
-fn say_too_long() {
-    say(b"compare: a table has more than 16384 bytes\n");
+fn say_too_long(rt: &impl Eprint) -> std::io::Result<()> {
+    eprintln!(rt; "compare: a table has more than {LONGEST_TABLE} bytes")
 }
 
 // The tables, one behind the other, of which the left one has so many bytes.
-fn compare_behind(tables: &[u8], size: usize, hide: bool) {
+fn compare_behind(
+    rt: &(impl Print + Eprint),
+    tables: &[u8],
+    size: usize,
+    hide: bool,
+) -> std::io::Result<()> {
     if tables.len() < size {
-        say(b"compare: the left table has fewer bytes than its size says\n");
-        return;
+        return eprintln!(rt; "compare: the left table has fewer bytes than its size says");
     }
     let right = part(tables, size, tables.len());
     if LONGEST_TABLE < right.len() {
-        say_too_long();
-        return;
+        return say_too_long(rt);
     }
-    compare_tables(part(tables, 0, size), right, hide);
+    compare_tables(rt, part(tables, 0, size), right, hide)
 }
 
-fn compare_input(input: &[u8], hide: bool) {
+fn compare_input(rt: &(impl Print + Eprint), input: &[u8], hide: bool) -> std::io::Result<()> {
     let first = part(input, 0, LONGEST_SIZE_LINE);
     let end = index_of(first, b'\n');
     if end == first.len() {
-        say_no_size();
-        return;
+        return say_no_size(rt);
     }
-    let Number::Value(size) = read_number(LARGEST_SIZE, part(first, 0, end)) else {
-        say_no_size();
-        return;
+    let Some(size) = read_number(LARGEST_SIZE, part(first, 0, end)) else {
+        return say_no_size(rt);
     };
     if (LONGEST_TABLE as u64) < size {
-        say_too_long();
-        return;
+        return say_too_long(rt);
     }
-    compare_behind(part(input, end + 1, input.len()), size as usize, hide);
+    compare_behind(rt, part(input, end + 1, input.len()), size as usize, hide)
 }
 
-// One byte more than is looked at is read, which tells a longer input.
-fn read_and_compare(hide: bool) {
-    let mut room = [0u8; LONGEST_SIZE_LINE + 2 * LONGEST_TABLE + 1];
-    let n = io::read_full(STDIN, &mut room);
-    compare_input(part(&room, 0, n), hide);
-}
-
-// Puts the program's argument k at the start of buf and answers its length, or 0 where it is missing or longer than buf. One
-// that is too long leaves its first bytes in buf.
-fn argument(rt: &impl Env, k: usize, buf: &mut [u8]) -> usize
-    ensures { IsPrefixLen result buf.new }
-{
-    match rt.arg(k, buf) {
-        Ok(n) => n,
-        Err(_) => 0,
-    }
-}
-
-// With a word that it does not know it shows nothing: it may have been meant to hide the secrets.
-fn main(rt: HostRuntime) {
+// With a word that it does not know it shows nothing. One byte more than is looked at is read, which tells a longer input.
+fn main(rt: HostRuntime) -> std::io::Result<()> {
     let mut word = [0u8; 32];
     let n = argument(&rt, 1, &mut word);
-    if n == 0 {
-        read_and_compare(false);
-        return;
-    }
-    if same(part(&word, 0, n), b"hide-secrets") {
-        read_and_compare(true);
-        return;
-    }
-    say(b"compare: the one word that may follow is hide-secrets\n");
+    let Some(hide) = hides(part(&word, 0, n)) else {
+        return eprintln!(rt; "compare: the one word that may follow is hide-secrets");
+    };
+    let mut room = [0u8; LONGEST_SIZE_LINE + 2 * LONGEST_TABLE + 1];
+    let n = io::read_full(0, &mut room);
+    compare_input(&rt, part(&room, 0, n), hide)
 }

@@ -4,7 +4,7 @@
 
 ghost use Rattle.std.specs.Prelude.{◌≡◌, ◌-◌};
 ghost use Rattle.text.specs.Put.{Puts};
-ghost use Rattle.difference_text.specs.DifferenceText.{field_number, field_at, hidden_name, with_value, both_values, only_in, shown_text};
+ghost use Rattle.difference_text.specs.DifferenceText.{field_number, field_at, hidden_name, bytes_in, with_value, both_values, only_in, shown_text};
 ghost use Rattle.difference_text.specs.DifferenceText.{field_line, presence_line, held_line, differs_line, entry_line, difference_text};
 
 use ibft_compare::difference::{Difference, DifferenceReading};
@@ -44,14 +44,12 @@ fn field_number(kind: u8, at: u16) -> u8
     ensures { result ≡ field_number kind at }
 {
     let count = field_count(kind);
-    let mut n: u8 = 0;
-    while n < count {
+    for n in 0..count {
         if field_at(kind, n).at == at {
             return n;
         }
-        n += 1;
     }
-    n
+    count
 }
 
 // That field, of the structure of this Index.
@@ -115,47 +113,6 @@ fn put_shown(room: &mut [u8], at: usize, n: u32, shown: &[u8]) -> usize
     put_char(room, end, b'\n')
 }
 
-// ---- lines
-
-// Puts the line of a field that both tables have.
-fn put_field_line(
-    room: &mut [u8],
-    at: usize,
-    left: &[u8],
-    right: &[u8],
-    reading: DifferenceReading,
-    f: FieldName,
-) -> usize
-    ensures { Puts room.old room.new at result (field_line f left.now right.now reading) }
-{
-    let l = reading.left;
-    let r = reading.right;
-    let in_left = part(left, l.start as usize, l.length as usize);
-    let in_right = part(right, r.start as usize, r.length as usize);
-    let end = put_both_values(room, at, f, in_left, in_right);
-    put_char(room, end, b'\n')
-}
-
-// Puts the line of a structure that one table alone has.
-fn put_presence_line(
-    room: &mut [u8],
-    at: usize,
-    reading: DifferenceReading,
-    id: u8,
-    index: u8,
-) -> usize
-    ensures { Puts room.old room.new at result (presence_line id index reading) }
-{
-    let l = reading.left;
-    let f = FieldName {
-        kind: id,
-        index,
-        field: field_count(id),
-    };
-    let end = put_name(room, at, f);
-    put_only_in(room, end, l.start == 0)
-}
-
 // Puts the line of an entry that one table alone has, there with these bytes; of a secret to hide, without them.
 fn put_held_line(
     room: &mut [u8],
@@ -175,66 +132,90 @@ fn put_held_line(
     put_only_in(room, end, right)
 }
 
-// Where the bytes shown start in the left table's string.
-fn shown_from(left: u32, shown: u32) -> u32
-    ensures { result ≡ shown - left }
-{
-    if shown <= left {
-        return 0;
-    }
-    shown - left
+// ---- lines
+
+// What a line tells: two tables, and a difference between them as it was read.
+#[derive(Clone, Copy)]
+struct Line<'a, 'b> {
+    left: &'a [u8],
+    right: &'b [u8],
+    reading: DifferenceReading,
 }
 
-// Puts the line of an entry that both tables have.
-fn put_differs_line(
-    room: &mut [u8],
-    at: usize,
-    left: &[u8],
-    right: &[u8],
-    reading: DifferenceReading,
-    secret: bool,
-    f: FieldName,
-) -> usize
-    ensures { Puts room.old room.new at result (differs_line secret f left.now right.now reading) }
-{
-    if secret {
-        let words = put_hidden_name(room, at, f);
-        return put_text(room, words, b"\tdiffers, hidden\n");
+impl<'a, 'b> Line<'a, 'b> {
+    // What differs, as the left table has it, and as the right one has it.
+    fn in_left(&self) -> &'a [u8]
+        ensures { result.now ≡ bytes_in self.now.left.now self.now.reading.left }
+    {
+        let l = self.reading.left;
+        part(self.left, l.start as usize, l.length as usize)
     }
-    let l = reading.left;
-    let r = reading.right;
-    let s = reading.shown;
-    let in_left = part(left, l.start as usize, l.length as usize);
-    let in_right = part(right, r.start as usize, r.length as usize);
-    let shown = part(left, s.start as usize, s.length as usize);
-    let n = shown_from(l.start, s.start);
-    let end = put_both_values(room, at, f, in_left, in_right);
-    put_shown(room, end, n, shown)
-}
 
-// Puts the line of an entry.
-fn put_entry_line(
-    room: &mut [u8],
-    at: usize,
-    left: &[u8],
-    right: &[u8],
-    reading: DifferenceReading,
-    secret: bool,
-    f: FieldName,
-) -> usize
-    ensures { Puts room.old room.new at result (entry_line secret f left.now right.now reading) }
-{
-    let l = reading.left;
-    let r = reading.right;
-    if r.start == 0 {
-        let bytes = part(left, l.start as usize, l.length as usize);
-        return put_held_line(room, at, secret, f, bytes, false);
+    fn in_right(&self) -> &'b [u8]
+        ensures { result.now ≡ bytes_in self.now.right.now self.now.reading.right }
+    {
+        let r = self.reading.right;
+        part(self.right, r.start as usize, r.length as usize)
     }
-    if l.start == 0 {
-        let bytes = part(right, r.start as usize, r.length as usize);
-        return put_held_line(room, at, secret, f, bytes, true);
+
+    // The bytes of the left table that are shown.
+    fn shown(&self) -> &'a [u8]
+        ensures { result.now ≡ bytes_in self.now.left.now self.now.reading.shown }
+    {
+        let s = self.reading.shown;
+        part(self.left, s.start as usize, s.length as usize)
     }
-    put_differs_line(room, at, left, right, reading, secret, f)
+
+    // Puts the line of a field that both tables have.
+    fn put_field(&self, room: &mut [u8], at: usize, f: FieldName) -> usize
+        ensures { Puts room.old room.new at result (field_line f self.now.left.now self.now.right.now self.now.reading) }
+    {
+        let end = put_both_values(room, at, f, self.in_left(), self.in_right());
+        put_char(room, end, b'\n')
+    }
+
+    // Puts the line of a structure that one table alone has.
+    fn put_presence(&self, room: &mut [u8], at: usize, id: u8, index: u8) -> usize
+        ensures { Puts room.old room.new at result (presence_line id index self.now.reading) }
+    {
+        let f = FieldName {
+            kind: id,
+            index,
+            field: field_count(id),
+        };
+        let end = put_name(room, at, f);
+        put_only_in(room, end, self.reading.left.start == 0)
+    }
+
+    // Puts the line of an entry that both tables have.
+    fn put_differs(&self, room: &mut [u8], at: usize, secret: bool, f: FieldName) -> usize
+        ensures { Puts room.old room.new at result
+            (differs_line secret f self.now.left.now self.now.right.now self.now.reading) }
+    {
+        if secret {
+            let words = put_hidden_name(room, at, f);
+            return put_text(room, words, b"\tdiffers, hidden\n");
+        }
+        let l = self.reading.left;
+        let s = self.reading.shown;
+        let n = s.start.saturating_sub(l.start);
+        let end = put_both_values(room, at, f, self.in_left(), self.in_right());
+        put_shown(room, end, n, self.shown())
+    }
+
+    // Puts the line of an entry.
+    fn put_entry(&self, room: &mut [u8], at: usize, secret: bool, f: FieldName) -> usize
+        ensures { Puts room.old room.new at result
+            (entry_line secret f self.now.left.now self.now.right.now self.now.reading) }
+    {
+        if self.reading.right.start == 0 {
+            return put_held_line(room, at, secret, f, self.in_left(), false);
+        }
+        if self.reading.left.start == 0 {
+            return put_held_line(room, at, secret, f, self.in_right(), true);
+        }
+        self.put_differs(room, at, secret, f)
+    }
 }
 
 // Puts the line of a difference between the two tables at `at`; answers the place behind it. Where secrets are to be hidden,
@@ -249,21 +230,22 @@ pub fn put_difference(
 ) -> usize
     ensures { Puts room.old room.new at result (difference_text hide left.now right.now reading) }
 {
-    let difference = reading.difference;
-    match difference {
+    let line = Line {
+        left,
+        right,
+        reading,
+    };
+    match reading.difference {
         Difference::Nothing => put_text(room, at, b""),
-        Difference::OemId => put_field_line(room, at, left, right, reading, OEM_ID),
-        Difference::OemTableId => put_field_line(room, at, left, right, reading, OEM_TABLE_ID),
-        Difference::ControlFlags => put_field_line(room, at, left, right, reading, CONTROL_FLAGS),
-        Difference::Presence(id, index) => put_presence_line(room, at, reading, id, index),
-        Difference::Field(id, index, place) => {
-            let f = name_at(id, index, place);
-            put_field_line(room, at, left, right, reading, f)
-        }
+        Difference::OemId => line.put_field(room, at, OEM_ID),
+        Difference::OemTableId => line.put_field(room, at, OEM_TABLE_ID),
+        Difference::ControlFlags => line.put_field(room, at, CONTROL_FLAGS),
+        Difference::Presence(id, index) => line.put_presence(room, at, id, index),
+        Difference::Field(id, index, place) => line.put_field(room, at, name_at(id, index, place)),
         Difference::Entry(id, index, place) => {
             let f = name_at(id, index, place);
             let secret = hide & is_secret(f.kind, f.field);
-            put_entry_line(room, at, left, right, reading, secret, f)
+            line.put_entry(room, at, secret, f)
         }
     }
 }

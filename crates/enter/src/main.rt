@@ -5,6 +5,7 @@
 
 ghost use Rattle.std.specs.Prelude.{◌≤◌};
 
+use bench_io::write_refusal;
 use family_text::enter::IMAGE_SIZE;
 use family_text::family::{Stray, family_of, stray_line};
 use family_text::fields::{ABFT, IBFT};
@@ -18,159 +19,132 @@ use ibft_layout::nic::Nic;
 use ibft_layout::shape::INDEX_AT;
 use ibft_layout::target::Target;
 use octets::read::{byte_at, part};
-use record_text::enter::{
-    Entered, GIVEN_BEFORE, NO_ROOM, NO_SUCH_FIELD, TOO_LONG, TOO_MANY, UNREADABLE, enter,
-};
+use record_text::enter::{Reason, Unread, enter};
 use record_text::fields::{
     FieldName, INITIATOR_FLAGS, NIC_FLAGS, Notation, TARGET_FLAGS, field_at, plain_count, put_name,
 };
-use refusal_text::{LINE_SIZE, put_refusal};
-use table_header::verdict::Refusal;
+use std::io::Stderr;
 use table_header::write::Written;
 
-const STDIN: i32 = 0;
+// The most bytes that a text may have.
+const LONGEST_TEXT: usize = 65536;
 
-const STDOUT: i32 = 1;
-
-const STDERR: i32 = 2;
-
-fn say(text: &[u8]) {
-    io::write_all(STDERR, text);
-}
-
-fn say_number(n: u64) {
-    io::print_decimal(STDERR, n);
-}
+// ---- why a value cannot be read
 
 // The largest number that a field of so many bytes holds.
-fn say_range(width: u8) {
-    match width {
-        1 => say(b"the value is not a number from 0 to 255"),
-        2 => say(b"the value is not a number from 0 to 65535"),
-        _ => say(b"the value is not a number from 0 to 18446744073709551615"),
-    }
+fn say_range(err: &Stderr, width: u8) -> std::io::Result<()> {
+    let largest = match width {
+        1 => u8::MAX as u64,
+        2 => u16::MAX as u64,
+        _ => u64::MAX,
+    };
+    println!(err; "the value is not a number from 0 to {largest}")
 }
 
 // The flags that a kind has.
-fn say_flags(kind: u8) {
-    say(b"the value is not made of the words: ");
+fn say_flags(err: &Stderr, kind: u8) -> std::io::Result<()> {
+    print!(err; "the value is not made of the words: ")?;
     if kind == Nic::ID {
-        say(&NIC_FLAGS);
-        return;
+        err.write_all(&NIC_FLAGS)?;
+    } else if kind == Target::ID {
+        err.write_all(&TARGET_FLAGS)?;
+    } else {
+        err.write_all(&INITIATOR_FLAGS)?;
     }
-    if kind == Target::ID {
-        say(&TARGET_FLAGS);
-        return;
-    }
-    say(&INITIATOR_FLAGS);
+    println!(err)
 }
 
-fn say_no_string() {
-    say(b"the value is not a string: a backslash starts \\\\ or \\xHH, ");
-    say(b"bytes below 0x20 are written \\xHH, an empty string \"\"");
+fn say_no_string(err: &Stderr) -> std::io::Result<()> {
+    print!(err; "the value is not a string: a backslash starts \\\\ or \\xHH, ")?;
+    println!(err; "bytes below 0x20 are written \\xHH, an empty string \"\"")
 }
 
-fn say_no_mac() {
-    say(b"the value is not a MAC address, as 02:00:5e:10:00:07");
+fn say_no_mac(err: &Stderr) -> std::io::Result<()> {
+    println!(err; "the value is not a MAC address, as 02:00:5e:10:00:07")
 }
 
 // Why the value of the field cannot be read.
-fn say_unreadable(field: FieldName) {
+fn say_unreadable(err: &Stderr, field: FieldName) -> std::io::Result<()> {
     let layout = field_at(field.kind, field.field);
     let notation = layout.notation;
     match notation {
-        Notation::Oem => say_no_string(),
-        Notation::Mode => say(b"the value is not one of: multi single"),
-        Notation::Flags => say_flags(field.kind),
-        Notation::Number => say_range(layout.width),
-        Notation::Port => say_range(layout.width),
-        Notation::Address => say(b"the value is not an IP address"),
-        Notation::Mac => say_no_mac(),
-        Notation::Pci => say(b"the value is not a PCI address, as 00:03.1"),
-        Notation::Chap => say(b"the value is not one of: none one-way mutual"),
-        Notation::Text => say_no_string(),
+        Notation::Oem => say_no_string(err),
+        Notation::Mode => println!(err; "the value is not one of: multi single"),
+        Notation::Flags => say_flags(err, field.kind),
+        Notation::Number => say_range(err, layout.width),
+        Notation::Port => say_range(err, layout.width),
+        Notation::Address => println!(err; "the value is not an IP address"),
+        Notation::Mac => say_no_mac(err),
+        Notation::Pci => println!(err; "the value is not a PCI address, as 00:03.1"),
+        Notation::Chap => println!(err; "the value is not one of: none one-way mutual"),
+        Notation::Text => say_no_string(err),
     }
 }
 
-fn say_too_long(field: FieldName) {
-    let layout = field_at(field.kind, field.field);
-    say(b"the string has more than ");
-    say_number(layout.width as u64);
-    say(b" bytes");
+fn say_too_long(err: &Stderr, width: u8) -> std::io::Result<()> {
+    println!(err; "the string has more than {width} bytes")
 }
 
-fn say_too_many(kind: u8) {
+fn say_too_many(err: &Stderr, kind: u8) -> std::io::Result<()> {
     if kind == Nic::ID {
-        say(b"a record has at most six NICs beyond nic0 and nic1");
-        return;
+        return println!(err; "a record has at most six NICs beyond nic0 and nic1");
     }
-    say(b"a record has at most six targets beyond target0 and target1");
+    println!(err; "a record has at most six targets beyond target0 and target1")
 }
 
-fn say_reason(reason: u8, field: FieldName) {
-    if reason == NO_SUCH_FIELD {
-        say(b"there is no such field");
-    }
-    if reason == GIVEN_BEFORE {
-        say(b"this field was given before");
-    }
-    if reason == UNREADABLE {
-        say_unreadable(field);
-    }
-    if reason == TOO_LONG {
-        say_too_long(field);
-    }
-    if reason == NO_ROOM {
-        say(b"the strings together have more than 16384 bytes");
-    }
-    if reason == TOO_MANY {
-        say_too_many(field.kind);
+fn say_no_such_field(err: &Stderr) -> std::io::Result<()> {
+    println!(err; "there is no such field")
+}
+
+fn say_given_before(err: &Stderr) -> std::io::Result<()> {
+    println!(err; "this field was given before")
+}
+
+fn say_reason(err: &Stderr, unread: Unread) -> std::io::Result<()> {
+    let field = unread.field;
+    match unread.reason {
+        Reason::NoSuchField => say_no_such_field(err),
+        Reason::GivenBefore => say_given_before(err),
+        Reason::Unreadable => say_unreadable(err, field),
+        Reason::TooLong => say_too_long(err, field_at(field.kind, field.field).width),
+        Reason::NoRoom => println!(err; "the strings together have more than 16384 bytes"),
+        Reason::TooMany => say_too_many(err, field.kind),
     }
 }
 
 // ---- a line that cannot be read
 
-fn say_line(line: usize) {
-    say(b"enter: line ");
-    say_number(line as u64);
-    say(b": ");
-}
-
-fn say_family(family: u8) {
+fn family_name(family: u8) -> &'static str {
     match family {
-        0 => {
-            say(b"an iBFT");
-        }
-        1 => {
-            say(b"an aBFT");
-        }
-        _ => {
-            say(b"an sBFT");
-        }
+        0 => "an iBFT",
+        1 => "an aBFT",
+        _ => "an sBFT",
     }
 }
 
-// A line that names a field of another family than the text's.
-fn say_stray(stray: Stray, family: u8) {
-    say_line(stray.line);
-    say(b"this field is of ");
-    say_family(stray.family);
-    say(b", and the text of ");
-    say_family(family);
-    say(b"\n");
+// The line that names a field of another family than the text's, where it is this one.
+fn stray_at(text: &[u8], line: usize) -> Option<Stray> {
+    stray_line(text).filter(|stray| stray.line == line)
 }
 
-fn say_unread(text: &[u8], entered: Entered) {
-    let stray = stray_line(text);
-    if stray.line == entered.line {
-        say_stray(stray, IBFT);
-        return;
-    }
-    let field = entered.field;
-    say_line(entered.line);
-    say_reason(entered.reason, field);
-    say(b"\n");
+fn say_stray(err: &Stderr, stray: Stray, family: u8) -> std::io::Result<()> {
+    let of = family_name(stray.family);
+    let text = family_name(family);
+    println!(err;
+        "enter: line {}: this field is of {of}, and the text of {text}",
+        stray.line
+    )
 }
+
+fn say_unread(err: &Stderr, text: &[u8], unread: Unread) -> std::io::Result<()> {
+    if let Some(stray) = stray_at(text, unread.line) {
+        return say_stray(err, stray, IBFT);
+    }
+    print!(err; "enter: line {}: ", unread.line)?;
+    say_reason(err, unread)
+}
+
+// ---- a record that is refused
 
 // The entry that a build calls `place`: the entries of extra targets follow those of the extra NICs that there are, without a
 // gap.
@@ -221,135 +195,114 @@ fn string_field(range: &[u8], place: u32) -> FieldName {
     }
 }
 
-fn say_name(field: FieldName) {
+// A field's name, and what is wrong with it.
+fn say_of(err: &Stderr, field: FieldName, wrong: &str) -> std::io::Result<()> {
     let mut room = [0u8; 64];
     let end = put_name(&mut room, 0, field);
-    say(part(&room, 0, end));
-    say(b": ");
-}
-
-// OEM field n.
-fn oem_field(n: u8) -> FieldName {
-    FieldName {
-        kind: 0,
-        index: 0,
-        field: n,
-    }
+    err.write_all(part(&room, 0, end))?;
+    println!(err; ": {wrong}")
 }
 
 // An OEM field that goes on behind a zero byte.
-fn say_oem(place: u32) {
-    say_name(oem_field(if place == 10 { 0 } else { 1 }));
-    say(b"a zero byte is followed by another byte\n");
+fn say_oem(err: &Stderr, place: u32) -> std::io::Result<()> {
+    let field = FieldName {
+        kind: 0,
+        index: 0,
+        field: if place == 10 { 0 } else { 1 },
+    };
+    say_of(err, field, "a zero byte is followed by another byte")
 }
 
 // The words of a refusal of the build. (The record range that `enter` makes has no reserved flag, no CHAP type above 2, no mark
 // but 0 and 1, its strings in the strings range, and the room holds every table: 10, 19, 21, 24 and 25 are not met here.)
-fn say_words(range: &[u8], number: u8, place: u32) {
-    match number {
-        8 => say_oem(place),
-        17 => {
-            say_name(string_field(range, place));
-            say(b"a name has at most 223 bytes, any other string 255\n");
-        }
-        18 => {
-            say_name(string_field(range, place));
-            say(b"this is not a host name\n");
-        }
-        20 => {
-            say_name(string_field(range, place));
-            say(b"the string has a zero byte\n");
-        }
-        _ => say(b"docs/REFUSALS.md says what the number means\n"),
-    }
-}
-
-fn say_refusal(refusal: Refusal) {
-    let mut room = [0u8; LINE_SIZE];
-    let end = put_refusal(&mut room, 0, refusal);
-    say(part(&room, 0, end));
+fn say_words(err: &Stderr, range: &[u8], number: u8, place: u32) -> std::io::Result<()> {
+    let wrong = match number {
+        8 => return say_oem(err, place),
+        17 => "a name has at most 223 bytes, any other string 255",
+        18 => "this is not a host name",
+        20 => "the string has a zero byte",
+        _ => return println!(err; "docs/REFUSALS.md says what the number means"),
+    };
+    say_of(err, string_field(range, place), wrong)
 }
 
 // Builds the record's table and writes it.
-fn write_table(range: &[u8], strings: &[u8]) {
+fn write_table(rt: &HostRuntime, range: &[u8], strings: &[u8]) -> std::io::Result<()> {
     let mut room = [0u8; LARGEST_LENGTH as usize];
     let built = build(range, strings, &mut room);
     let refusal = built.refusal;
     if refusal.number != 0 {
-        say_refusal(refusal);
-        say_words(range, refusal.number, refusal.place);
-        return;
+        write_refusal(&mut rt.stderr(), refusal)?;
+        return say_words(&rt.stderr(), range, refusal.number, refusal.place);
     }
-    io::write_all(STDOUT, part(&room, 0, built.length as usize));
+    rt.write_all(part(&room, 0, built.length as usize))
 }
 
-fn enter_ibft(text: &[u8]) {
+fn enter_ibft(rt: &HostRuntime, text: &[u8]) -> std::io::Result<()> {
     let mut range = [0u8; LARGEST_SIZE as usize];
     let mut strings = [0u8; 16384];
     let entered = enter(text, &mut range, &mut strings);
-    if entered.reason != 0 {
-        say_unread(text, entered);
-        return;
+    if let Err(unread) = entered.read {
+        return say_unread(&rt.stderr(), text, unread);
     }
     write_table(
+        rt,
         part(&range, 0, entered.size),
         part(&strings, 0, entered.used),
-    );
+    )
 }
 
 // ---- an aBFT or an sBFT
 
+// (Six pairs are a MAC address.)
+fn say_no_pairs(err: &Stderr, width: u8) -> std::io::Result<()> {
+    if width == 6 {
+        return say_no_mac(err);
+    }
+    println!(err; "the value is not {width} pairs of hexadecimal digits with colons between")
+}
+
 // Why the value of field n of the family cannot be read.
-fn say_image_unreadable(family: u8, n: u8) {
+fn say_image_unreadable(err: &Stderr, family: u8, n: u8) -> std::io::Result<()> {
     let layout = family_text::fields::field_at(family, n);
     let notation = layout.notation;
     match notation {
-        family_text::fields::Notation::Oem => say_no_string(),
-        family_text::fields::Notation::Number => say_range(layout.width),
-        family_text::fields::Notation::Pairs => say_no_pairs(layout.width),
-        family_text::fields::Notation::Address => say(
-            b"the value is not an address, as fe80::2:c903:0:1491",
+        family_text::fields::Notation::Oem => say_no_string(err),
+        family_text::fields::Notation::Number => say_range(err, layout.width),
+        family_text::fields::Notation::Pairs => say_no_pairs(err, layout.width),
+        family_text::fields::Notation::Address => println!(err;
+            "the value is not an address, as fe80::2:c903:0:1491"
         ),
     }
 }
 
-// (Six pairs are a MAC address.)
-fn say_no_pairs(width: u8) {
-    if width == 6 {
-        say_no_mac();
-        return;
-    }
-    say(b"the value is not ");
-    say_number(width as u64);
-    say(b" pairs of hexadecimal digits with colons between");
-}
-
-fn say_image_reason(family: u8, reason: u8, n: u8) {
-    if reason == NO_SUCH_FIELD {
-        say(b"there is no such field");
-    }
-    if reason == GIVEN_BEFORE {
-        say(b"this field was given before");
-    }
-    if reason == UNREADABLE {
-        say_image_unreadable(family, n);
-    }
-    if reason == TOO_LONG {
-        say(b"the string has more than ");
-        say_number(family_text::fields::field_at(family, n).width as u64);
-        say(b" bytes");
+fn say_image_reason(
+    err: &Stderr,
+    family: u8,
+    unread: family_text::enter::Unread,
+) -> std::io::Result<()> {
+    let n = unread.field;
+    match unread.reason {
+        family_text::enter::Reason::NoSuchField => say_no_such_field(err),
+        family_text::enter::Reason::GivenBefore => say_given_before(err),
+        family_text::enter::Reason::Unreadable => say_image_unreadable(err, family, n),
+        family_text::enter::Reason::TooLong => {
+            say_too_long(err, family_text::fields::field_at(family, n).width)
+        }
     }
 }
 
-fn say_image_unread(family: u8, text: &[u8], entered: family_text::enter::Entered) {
-    let stray = stray_line(text);
-    if stray.line == entered.line {
-        say_stray(stray, family);
-        return;
+fn say_image_unread(
+    err: &Stderr,
+    family: u8,
+    text: &[u8],
+    unread: family_text::enter::Unread,
+) -> std::io::Result<()> {
+    if let Some(stray) = stray_at(text, unread.line) {
+        return say_stray(err, stray, family);
     }
-    say_line(entered.line);
-    say_image_reason(family, entered.reason, entered.field);
-    say(b"\n");
+    print!(err; "enter: line {}: ", unread.line)?;
+    say_image_reason(err, family, unread)
 }
 
 fn write_image(family: u8, image: &[u8], room: &mut [u8]) -> Written {
@@ -360,44 +313,36 @@ fn write_image(family: u8, image: &[u8], room: &mut [u8]) -> Written {
 }
 
 // Writes the table of the image. (The room holds every table, so an OEM field is all that can be refused.)
-fn write_family(family: u8, image: &[u8]) {
+fn write_family(rt: &HostRuntime, family: u8, image: &[u8]) -> std::io::Result<()> {
     let mut room = [0u8; IMAGE_SIZE];
     let written = write_image(family, image, &mut room);
     let refusal = written.refusal;
     if refusal.number != 0 {
-        say_refusal(refusal);
-        say_oem(refusal.place);
-        return;
+        write_refusal(&mut rt.stderr(), refusal)?;
+        return say_oem(&rt.stderr(), refusal.place);
     }
-    io::write_all(STDOUT, part(&room, 0, written.length as usize));
+    rt.write_all(part(&room, 0, written.length as usize))
 }
 
-fn enter_family(family: u8, text: &[u8]) {
+fn enter_family(rt: &HostRuntime, family: u8, text: &[u8]) -> std::io::Result<()> {
     let mut image = [0u8; IMAGE_SIZE];
-    let entered = family_text::enter::enter(family, text, &mut image);
-    if entered.reason != 0 {
-        say_image_unread(family, text, entered);
-        return;
+    if let Err(unread) = family_text::enter::enter(family, text, &mut image) {
+        return say_image_unread(&rt.stderr(), family, text, unread);
     }
-    write_family(family, &image);
-}
-
-fn enter_text(text: &[u8]) {
-    let family = family_of(text);
-    if family == IBFT {
-        enter_ibft(text);
-    } else {
-        enter_family(family, text);
-    }
+    write_family(rt, family, &image)
 }
 
 // One byte more than a text may have is read, which tells a longer one.
-fn main() {
-    let mut text = [0u8; 65537];
-    let n = io::read_full(STDIN, &mut text);
-    if 65536 < n {
-        say(b"enter: the text has more than 65536 bytes\n");
-        return;
+fn main(rt: HostRuntime) -> std::io::Result<()> {
+    let mut input = [0u8; LONGEST_TEXT + 1];
+    let n = io::read_full(0, &mut input);
+    if LONGEST_TEXT < n {
+        return eprintln!(rt; "enter: the text has more than {LONGEST_TEXT} bytes");
     }
-    enter_text(part(&text, 0, n));
+    let text = part(&input, 0, n);
+    let family = family_of(text);
+    if family == IBFT {
+        return enter_ibft(&rt, text);
+    }
+    enter_family(&rt, family, text)
 }

@@ -7,10 +7,10 @@
 --     field-length, kept, field-set       all fields entered: a byte that they leave alone stays; a field that is told has its
 --                                         bytes
 -- Assumes nothing.
+use Rattle.std.specs.Prelude.{Some}
 use mathlib.Core.Path.{◌≡◌, refl, sym, ap, ◌∙◌}
 use mathlib.Core.List.{List, [], ◌∷◌, ◌++◌, append-nil, append_assoc}
 use mathlib.Core.Bool.{Bool, true, false, cond, not, ◌&&◌, ◌||◌}
-use mathlib.Core.Option.{some}
 use Prim.Native.Nat.{ℕ, zero, suc, ◌+◌, ◌≤◌, ◌<◌}
 use native.Mathlib.Decide.{dec_lt}
 use native.Mathlib.Omega.{arith}
@@ -82,7 +82,7 @@ module _ (family : ℕ) (t : List ℕ) (small : Bytes t) (all : (n : ℕ) → He
         ]
 
     -- its text is read as its bytes
-    read_back : field_bytes family n (value_text f.notation f.width (bytes_in t f)) ≡ some (bytes_in t f)
+    read_back : field_bytes family n (value_text f.notation f.width (bytes_in t f)) ≡ Some (bytes_in t f)
     read_back = value-back f.notation f.width (bytes_in t f) (field_fits family n) bytes-many bytes_small (λ oem. (all n).filled oem)
 
   -- ---- the lines

@@ -14,9 +14,8 @@ use lib.Dec.{eqb}
 use Rattle.octets.specs.Octets.{part, all_zero}
 use Rattle.octets.proofs.CountingLaws.{clash}
 use Rattle.scan.specs.Scan.{abft as abft_family, sbft as sbft_family}
-use Rattle.table_header.specs.Verdict.{refuse, first_of}
+use Rattle.table_header.specs.Verdict.{refuse, first_of, Accepted}
 use Rattle.table_header.specs.Header.{padded, header_tests}
-use Rattle.table_header.specs.declared.verdict.Verdict.TheVariants.{Accepted}
 use Rattle.table_header.proofs.VerdictLaws.{passes, append-passes, accept-cons, accept-none}
 use Rattle.abft.specs.Abft.{check_tests as abft_tests, check_of as abft_check}
 use Rattle.sbft.specs.Check.{check_tests as sbft_tests, check_of as sbft_check}

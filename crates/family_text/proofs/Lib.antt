@@ -1,5 +1,6 @@
 pub mod FieldsLaws
 pub mod ValueLaws
+pub mod LinesLaws
 pub mod FamilyLaws
 pub mod EnterLaws
 pub mod TellLaws

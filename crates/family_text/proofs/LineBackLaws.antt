@@ -6,10 +6,10 @@
 --     told-family             it is of the family of its name
 --     told-read               it gives the field its bytes
 -- Assumes nothing.
+use Rattle.std.specs.Prelude.{Some}
 use mathlib.Core.Path.{◌≡◌, refl, sym, ap, ◌∙◌}
 use mathlib.Core.List.{List, [], ◌∷◌, ◌++◌, append_assoc}
 use mathlib.Core.Bool.{Bool, true, false, cond, not, ◌&&◌}
-use mathlib.Core.Option.{some}
 use Prim.Native.Char.{code}
 use Prim.Native.Nat.{ℕ, ◌<◌}
 use native.Mathlib.Omega.{arith}
@@ -130,7 +130,7 @@ module _ (family n : ℕ) (low : n < field_count family) (bytes : List ℕ) wher
   unfolding line_family
   told-family = rw (line-whole, line-says, field-line own (code " ") text name.whole blank)
 
-  pub told-read : (d : Draft) → (byte d.given n ≡ 1 → ⊥) → field_bytes family n text ≡ some bytes
+  pub told-read : (d : Draft) → (byte d.given n ≡ 1 → ⊥) → field_bytes family n text ≡ Some bytes
       → line_step family d line ≡ step_of 0 n (with_value family d n bytes)
   unfolding line_step field_step value_step
   told-read d first-time back =

@@ -1,4 +1,4 @@
--- The IB part's offset in the image of an s_b_f_t that is told and entered: it is written exactly where the table has an IB part.
+-- The IB part's offset in the image of an sBFT that is told and entered: it is written exactly where the table has an IB part.
 --     offset-none     no field of the IB part is told: the offset stays
 --     offset-set      one of them is: it is 88
 -- Assumes nothing.

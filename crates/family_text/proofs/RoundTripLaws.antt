@@ -2,10 +2,10 @@
 -- elsewhere, and an IB part exactly where the table has one.
 --     enters-what-is-told
 -- Assumes nothing.
+use Rattle.std.specs.Prelude.{None, Some}
 use mathlib.Core.Path.{◌≡◌, refl, sym, ap, ◌∙◌}
 use mathlib.Core.List.{List}
 use mathlib.Core.Bool.{Bool, true, false, cond, not}
-use mathlib.Core.Option.{none, some}
 use Prim.Native.Nat.{ℕ, ◌+◌, ◌≤◌, ◌<◌}
 use native.Mathlib.Nat.{zero-add}
 use native.Mathlib.Omega.{arith}
@@ -15,8 +15,7 @@ use Rattle.octets.specs.Octets.{byte, bytes_at, all_zero, zeros, write}
 use Rattle.octets.proofs.CountingLaws.{clash}
 use Rattle.octets.proofs.ReadLaws.{part_at, bytes_same, bytes-from}
 use Rattle.octets.proofs.WriteLaws.{length-write, length-zeros, get_d-zeros, write-at}
-use Rattle.table_header.specs.declared.verdict.Verdict.TheVariants.{Accepted}
-use Rattle.table_header.specs.Verdict.{shown}
+use Rattle.table_header.specs.Verdict.{Accepted, shown}
 use Rattle.abft.specs.Abft.{check_of as abft_check, record_of as abft_record}
 use Rattle.sbft.specs.Layout.{part_of, offset_of, absent}
 use Rattle.sbft.specs.Check.{check_of as sbft_check}
@@ -98,7 +97,7 @@ module _ (family : ℕ) (t image : List ℕ) (small : Bytes t) (ok : verdict_of 
             zero_field : all_zero (bytes_in t f) ≡ true → byte t (start_in t f.part + f.at + j) ≡ 0
             zero_field z = sym (field-byte j h) ∙ zero-bytes (bytes_in t f) z j
 
--- ---- an a_b_f_t
+-- ---- an aBFT
 
 module _ (t image : List ℕ) (small : Bytes t) (ok : abft_check t ≡ Accepted) (room : image_size ≤ length image) where
   abft-ok : verdict_of abft t ≡ Accepted
@@ -141,7 +140,7 @@ module _ (t image : List ℕ) (small : Bytes t) (ok : abft_check t ≡ Accepted)
         same = ap (λ (o : Outcome). abft_record o.draft.image) e ∙ abft-record;
       }
 
--- ---- an s_b_f_t
+-- ---- an sBFT
 
 -- a part of the image and of the table
 part_same : (im t : List ℕ) (p s i n : ℕ) → ((j : ℕ) → j < n → byte im (p + i + j) ≡ byte t (s + i + j)) → bytes_at (drop p im) i n ≡ bytes_at (drop s t) i n
@@ -222,13 +221,13 @@ module _ (t image : List ℕ) (small : Bytes t) (ok : sbft_check t ≡ Accepted)
       let high : byte sbft_left 41 ≡ 0 = offset-none t small fields (blank_draft image) gone 1 (omega arith) ∙ blank 41 (omega arith) in
       rw (low, high)
 
-  ib-option : cond (absent sbft_left 2) none (some (ib_in (drop 88 sbft_left))) ≡ cond (absent t 2) none (some (ib_in (drop (offset_of t 2) t)))
+  ib-option : cond (absent sbft_left 2) None (Some (ib_in (drop 88 sbft_left))) ≡ cond (absent t 2) None (Some (ib_in (drop (offset_of t 2) t)))
   ib-option = go (absent t 2) refl
     where
-      go : (b : Bool) → absent t 2 ≡ b → cond (absent sbft_left 2) none (some (ib_in (drop 88 sbft_left)))
-          ≡ cond (absent t 2) none (some (ib_in (drop (offset_of t 2) t)))
+      go : (b : Bool) → absent t 2 ≡ b → cond (absent sbft_left 2) None (Some (ib_in (drop 88 sbft_left)))
+          ≡ cond (absent t 2) None (Some (ib_in (drop (offset_of t 2) t)))
       go true gone = rw (ib-gone gone, gone)
-      go false there = rw (ib-present there, there) (ap some (ib-same there))
+      go false there = rw (ib-present there, there) (ap Some (ib-same there))
 
   sbft-record : record_given sbft_left ≡ sbft_record t
   unfolding record_given sbft_record record_at sbft_place part_of

@@ -18,10 +18,8 @@ use lib.Dec.{eqb}
 use Rattle.octets.specs.Counting.{gather}
 use Rattle.octets.specs.Octets.{byte, all_zero}
 use Rattle.octets.proofs.CountingLaws.{gather-last}
-use Rattle.table_header.specs.Verdict.{shown}
-use Rattle.table_header.specs.declared.verdict.Verdict.{Verdict}
+use Rattle.table_header.specs.Verdict.{shown, Verdict, Accepted, Refused}
 use Rattle.table_header.specs.declared.verdict.Refusal.{Refusal}
-use Rattle.table_header.specs.declared.verdict.Verdict.TheVariants.{Accepted, Refused}
 use Rattle.abft.specs.Abft.{check_of as abft_check}
 use Rattle.sbft.specs.Check.{check_of as sbft_check}
 use Rattle.sbft.specs.Layout.{offset_of, absent}

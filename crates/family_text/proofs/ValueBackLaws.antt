@@ -4,10 +4,10 @@
 --     take-small      some of the bytes are bytes
 --     value-back      the text of a value, read, is its bytes
 -- Assumes nothing.
+use Rattle.std.specs.Prelude.{Some, option_map}
 use mathlib.Core.Path.{◌≡◌, refl, sym, ap, ◌∙◌}
 use mathlib.Core.List.{List, [], ◌∷◌, ◌++◌}
 use mathlib.Core.Bool.{Bool, true, false, cond, ◌||◌}
-use mathlib.Core.Option.{some, map}
 use Prim.Native.Nat.{ℕ, zero, suc, ◌-◌, ◌^◌, ◌≤◌}
 use native.Mathlib.Nat.{zero-add}
 use native.Mathlib.Omega.{arith}
@@ -29,7 +29,8 @@ use Rattle.notation.proofs.PairsLaws.{pairs-back}
 use Rattle.notation.specs.Escape.{string_of}
 use Rattle.notation.proofs.EscapeLaws.{string-back}
 use Rattle.table_header.specs.Header.{padded}
-use Rattle.family_text.specs.Value.{filled, number_bytes, value_bytes, fits, oem_text, value_text}
+use Rattle.notation.specs.Value.{filled}
+use Rattle.family_text.specs.Value.{number_bytes, value_bytes, fits, oem_text, value_text}
 use Rattle.family_text.specs.Enter.{is_oem}
 use Rattle.family_text.specs.Promises.{Bytes}
 use Rattle.family_text.specs.declared.fields.Notation.{Notation}
@@ -45,13 +46,13 @@ listed bytes n e = bytes-elements bytes bytes 0 n e (λ j h. ap (byte bytes) (sy
 module _ (bytes : List ℕ) (small : Bytes bytes) where
   -- a number of so many bytes
   abbrev Back : ℕ → Type 0
-  Back width = length bytes ≡ width → number_bytes width (digits 10 (word16 bytes 0)) ≡ some bytes
+  Back width = length bytes ≡ width → number_bytes width (digits 10 (word16 bytes 0)) ≡ Some bytes
 
   back-with : (width : ℕ) → word16 bytes 0 ≤ 256 ^ width - 1 → take width (le16 (word16 bytes 0)) ≡ bytes
-      → number_bytes width (digits 10 (word16 bytes 0)) ≡ some bytes
+      → number_bytes width (digits 10 (word16 bytes 0)) ≡ Some bytes
   unfolding number_bytes
   back-with width h e =
-      ap (map (λ (n : ℕ). take width (le16 n))) (number_up_to-digits (256 ^ width - 1) (word16 bytes 0) h) ∙ ap some e
+      ap (option_map (λ (n : ℕ). take width (le16 n))) (number_up_to-digits (256 ^ width - 1) (word16 bytes 0) h) ∙ ap Some e
 
   front : (width : ℕ) → take width (le16 (word16 bytes 0)) ≡ take width (two bytes small 0)
   front width = ap (take width) (le16-word bytes small 0)
@@ -130,7 +131,7 @@ index-most (b ∷ t) = go (eqb b 0) (index-most t)
     go false rest = omega arith
 
 oem-back : (width : ℕ) (bytes : List ℕ) → padded bytes ≡ true → length bytes ≡ width → Bytes bytes
-    → filled width (string_of (oem_text bytes)) ≡ some bytes
+    → filled width (string_of (oem_text bytes)) ≡ Some bytes
 oem-back width bytes pad e small =
     let string = take (index_of 0 bytes) bytes in
     let within : length string ≤ width = omega (arith, index-within bytes, index-most bytes, e) in
@@ -140,14 +141,14 @@ oem-back width bytes pad e small =
 
 -- ---- pairs, of which there is at least one
 
-pairs-written : (width : ℕ) (bytes : List ℕ) → 1 ≤ width → length bytes ≡ width → Bytes bytes → read_pairs width (pairs_text width bytes) ≡ some bytes
+pairs-written : (width : ℕ) (bytes : List ℕ) → 1 ≤ width → length bytes ≡ width → Bytes bytes → read_pairs width (pairs_text width bytes) ≡ Some bytes
 pairs-written zero bytes h e small = absurd (omega arith)
 pairs-written (suc n) bytes h e small = pairs-back bytes n e small
 
 -- ---- every notation
 
 pub value-back : (notation : Notation) (width : ℕ) (bytes : List ℕ) → fits notation width ≡ true → length bytes ≡ width → Bytes bytes
-    → (is_oem notation ≡ true → padded bytes ≡ true) → value_bytes notation width (value_text notation width bytes) ≡ some bytes
+    → (is_oem notation ≡ true → padded bytes ≡ true) → value_bytes notation width (value_text notation width bytes) ≡ Some bytes
 unfolding value_bytes value_text fits is_oem
 value-back Oem width bytes f e small said = oem-back width bytes (said refl) e small
 value-back Number width bytes f e small said = number-back bytes small width f e

@@ -6,18 +6,17 @@ use Rattle.octets.specs.Octets.{zeros}
 use Rattle.text.specs.Put.{ascii}
 use Rattle.text.specs.Split.{join}
 use Rattle.family_text.specs.Fields.{abft, sbft}
-use Rattle.family_text.specs.Enter.{answer_of, entered_from}
+use Rattle.family_text.specs.Enter.{Answer, answer_of, entered_from}
 use Rattle.family_text.specs.Computing.{computing}
-use Rattle.family_text.specs.declared.enter.Entered.{Entered}
 
 -- lines with a line feed between each two
 text : List String → List ℕ
 text lines = join 10 (map (λ (s : String). ascii s) lines)
 
-answer : ℕ → ℕ → ℕ → Entered
+answer : ℕ → ℕ → ℕ → Answer
 answer reason line field = record { reason = reason; line = line; field = field }
 
--- ---- an a_b_f_t
+-- ---- an aBFT
 
 bench : List ℕ
 bench = text ("oem.id METTA" ∷ "abft.shelf 7" ∷ "# the AoE shelf" ∷ "abft.slot 0x3" ∷ "abft.mac 52:54:00:12:34:56" ∷ "" ∷ [])
@@ -32,7 +31,7 @@ bench-image : (entered_from abft bench (255 ∷ (zeros 135 ++ (9 ∷ [])))).draf
 unfolding computing text bench
 bench-image = refl
 
--- ---- an s_b_f_t
+-- ---- an sBFT
 
 -- without an IB part the word at 40 is 0
 plain : List ℕ

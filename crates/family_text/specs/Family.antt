@@ -1,5 +1,5 @@
 -- The family of a line and of a text: docs/RECORD-FORMAT.md, Lines and Families. Assumes nothing: these are definitions.
-use Rattle.std.specs.Prelude.{ℕ, suc, List, [], ◌∷◌, Bool, cond, ◌||◌, length, eqb}
+use Rattle.std.specs.Prelude.{ℕ, suc, List, [], ◌∷◌, Bool, cond, ◌||◌, length, eqb, Option, None, Some}
 use Prim.Native.Char.{code}
 use Rattle.octets.specs.Octets.{byte, part}
 use Rattle.text.specs.Put.{ascii}
@@ -32,7 +32,7 @@ line_family line = cond (says_nothing (trim line)) no_family (family_named (fiel
 
 -- ---- a text
 
--- the family of the first line that has one; the i_b_f_t where none has
+-- the family of the first line that has one; the iBFT where none has
 unfoldable pub first_family : List (List ℕ) → ℕ
 first_family [] = ibft
 first_family (l ∷ ls) = cond (eqb (line_family l) no_family) (first_family ls) (line_family l)
@@ -51,3 +51,7 @@ stray_from family n (l ∷ ls) =
 -- .. and not the text's; lines are counted from 1
 unfoldable pub stray_in : List ℕ → Stray
 stray_in text = stray_from (text_family text) 1 (pieces 10 text)
+
+-- as the code answers it
+abbrev pub stray_read : Stray → Option Stray
+stray_read s = cond (eqb s.line 0) None (Some s)

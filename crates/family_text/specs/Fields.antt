@@ -1,4 +1,4 @@
--- The fields of the text of an a_b_f_t and of an s_b_f_t, as data: docs/RECORD-FORMAT.md, Fields. A field has a number in its
+-- The fields of the text of an aBFT and of an sBFT, as data: docs/RECORD-FORMAT.md, Fields. A field has a number in its
 -- family's list; what it is called, how its value is written, in which part of a table it stands and where in it. One
 -- description serves entering, where the parts stand as a written table has them, and telling, where they stand as the table
 -- says. Assumes nothing: these are definitions.

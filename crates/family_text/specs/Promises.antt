@@ -1,7 +1,7 @@
 -- What telling and entering promise. Nothing but the promises stands here.
 use Rattle.std.specs.Prelude.{◌≡◌, List, ℕ, ◌≤◌, ◌<◌, length}
 use Rattle.octets.specs.Octets.{byte}
-use Rattle.table_header.specs.declared.verdict.Verdict.TheVariants.{Accepted}
+use Rattle.table_header.specs.Verdict.{Accepted}
 use Rattle.abft.specs.Abft.{check_of as abft_check, record_of as abft_record}
 use Rattle.sbft.specs.Check.{check_of as sbft_check}
 use Rattle.sbft.specs.Readings.{record_of as sbft_record}
@@ -25,12 +25,12 @@ pub record ToldAndEntered {R : Type 0} (family : ℕ) (text : List ℕ) (o : Out
   -- the image's record is the table's
   pub same : given ≡ held
 
--- Of every a_b_f_t that the check accepts, where `enter` is lent an image of which no record needs more.
+-- Of every aBFT that the check accepts, where `enter` is lent an image of which no record needs more.
 abbrev pub EntersAbft : Type 0
 EntersAbft = (t image : List ℕ) → Bytes t → abft_check t ≡ Accepted → image_size ≤ length image
     → let o = entered_from abft (table_text abft t) image in ToldAndEntered abft (table_text abft t) o (abft_record o.draft.image) (abft_record t)
 
--- .. of every s_b_f_t
+-- .. of every sBFT
 abbrev pub EntersSbft : Type 0
 EntersSbft = (t image : List ℕ) → Bytes t → sbft_check t ≡ Accepted → image_size ≤ length image
     → let o = entered_from sbft (table_text sbft t) image in ToldAndEntered sbft (table_text sbft t) o (record_given o.draft.image) (sbft_record t)

@@ -1,10 +1,9 @@
--- What an a_b_f_t or an s_b_f_t holds, as text: docs/RECORD-FORMAT.md, What tell writes. Assumes nothing: these are definitions.
+-- What an aBFT or an sBFT holds, as text: docs/RECORD-FORMAT.md, What tell writes. Assumes nothing: these are definitions.
 use Rattle.std.specs.Prelude.{ℕ, zero, suc, ◌+◌, List, [], ◌∷◌, ◌++◌, Bool, true, cond, not, eqb}
 use Prim.Native.Char.{code}
 use Rattle.octets.specs.Counting.{gather}
 use Rattle.octets.specs.Octets.{part, all_zero}
-use Rattle.table_header.specs.Verdict.{shown}
-use Rattle.table_header.specs.declared.verdict.Verdict.{Verdict}
+use Rattle.table_header.specs.Verdict.{shown, Verdict}
 use Rattle.abft.specs.Abft.{check_of as abft_check}
 use Rattle.sbft.specs.Check.{check_of as sbft_check}
 use Rattle.sbft.specs.Layout.{offset_of, absent}

@@ -1,28 +1,22 @@
 -- The value of a field as text, and the bytes it has in a table: docs/RECORD-FORMAT.md, Values. Assumes nothing: these are
 -- definitions.
-use Rattle.std.specs.Prelude.{ℕ, ◌-◌, ◌^◌, List, ◌++◌, Bool, true, false, cond, ◌&&◌, ◌||◌, length, take, eqb, leb}
-use Rattle.std.proofs.Math.Option.{Option, none, some, map}
-use Rattle.octets.specs.Octets.{word16, bytes_at, le16, zeros}
+use Rattle.std.specs.Prelude.{ℕ, ◌-◌, ◌^◌, List, Bool, ◌&&◌, ◌||◌, take, eqb, leb, Option, option_map}
+use Rattle.octets.specs.Octets.{word16, bytes_at, le16}
 use Rattle.text.specs.Split.{index_of}
 use Rattle.notation.specs.Number.{number_up_to, digits}
 use Rattle.notation.specs.Address.{read_address, address_text}
 use Rattle.notation.specs.Pairs.{read_pairs, pairs_text}
 use Rattle.notation.specs.Escape.{string_of, string_text}
+use Rattle.notation.specs.Value.{filled}
 use Rattle.family_text.specs.Fields.{field_of}
 use Rattle.family_text.specs.declared.fields.Notation.{Notation}
 use Rattle.family_text.specs.declared.fields.Notation.TheVariants.{Oem, Number, Pairs, Address}
-use Rattle.family_text.specs.declared.value.Value.{Value}
 
 -- ---- from text to bytes; `none` where the value cannot be read
 
--- a string of at most `width` bytes, filled with zeros
-abbrev pub filled : ℕ → Option (List ℕ) → Option (List ℕ)
-filled width none = none
-filled width (some s) = cond (leb (length s) width) (some (s ++ zeros (width - length s))) none
-
 -- a number as `width` bytes, one or two, the lower first, where it fits into them
 unfoldable pub number_bytes : ℕ → List ℕ → Option (List ℕ)
-number_bytes width text = map (λ (n : ℕ). take width (le16 n)) (number_up_to (256 ^ width - 1) text)
+number_bytes width text = option_map (λ (n : ℕ). take width (le16 n)) (number_up_to (256 ^ width - 1) text)
 
 unfoldable pub value_bytes : Notation → ℕ → List ℕ → Option (List ℕ)
 value_bytes Oem width text = filled width (string_of text)
@@ -36,11 +30,6 @@ fits Oem width = leb width 16
 fits Number width = eqb width 1 || eqb width 2
 fits Pairs width = leb 1 width && leb width 16
 fits Address width = eqb width 16
-
--- as the code answers it: the bytes, and zeros behind them up to 16
-unfoldable pub value_read : Option (List ℕ) → Value
-value_read none = record { ok = false; bytes = zeros 16 }
-value_read (some bytes) = record { ok = true; bytes = bytes ++ zeros (16 - length bytes) }
 
 -- the bytes of a family's field n with this text as its value
 abbrev pub field_bytes : ℕ → ℕ → List ℕ → Option (List ℕ)

@@ -5,27 +5,30 @@ ghost use Rattle.text.specs.Split.{pieces};
 ghost use Rattle.notation.specs.Escape.{string_of};
 ghost use Rattle.family_text.specs.Fields.{field_of};
 ghost use Rattle.family_text.specs.Value.{field_bytes};
-ghost use Rattle.family_text.specs.Enter.{place_written, place_of, present, is_oem, reason_of, value_step, field_step, line_step, lines_from, Enters};
-ghost use Rattle.family_text.specs.Entering.{draft_with, step_with, outcome_with};
+ghost use Rattle.family_text.specs.Enter.{place_written, place_of, present, is_oem, number_of, reason_of, value_step, field_step, line_step, lines_from, Enters};
+ghost use Rattle.family_text.specs.Entering.{draft_with, IsStep, outcome_with};
 
 use crate::family::says_nothing;
 use crate::fields::{IB_PART, Notation, field_at, field_count, field_named};
 use crate::value::read_value;
-use notation::escape::{Decoded, string_length};
+use notation::escape::string_length;
 use octets::read::{byte_at, part};
 use octets::write::{put_byte, put_bytes, put_u16, put_zeros};
 use sbft::layout::{Part, part_of};
-use text::split::{field_text, index_of, trimmed, value_of};
+use text::split::{field_text, trimmed, value_of};
 
-// Why a line cannot be read: it names no field of the family, or one that a line above gives; its value is not of the field's
-// notation, or has more bytes than an OEM field.
-pub const NO_SUCH_FIELD: u8 = 1;
-
-pub const GIVEN_BEFORE: u8 = 2;
-
-pub const UNREADABLE: u8 = 3;
-
-pub const TOO_LONG: u8 = 4;
+// Why a line cannot be read.
+#[derive(Clone, Copy)]
+pub enum Reason {
+    // It names no field of the family.
+    NoSuchField,
+    // It names one that a line above gives.
+    GivenBefore,
+    // Its value is not of the field's notation.
+    Unreadable,
+    // Its value has more bytes than an OEM field.
+    TooLong,
+}
 
 // How many bytes of an image are a table's.
 pub const IMAGE_SIZE: usize = 136;
@@ -33,19 +36,21 @@ pub const IMAGE_SIZE: usize = 136;
 // A mark for each field that was given.
 const MARK_COUNT: usize = 16;
 
-// What a text was read as: why `line`, counted from 1, cannot be read, and the number of the field that it names; all 0 where
-// every line is read.
+// The first line of a text that cannot be read: why, which it is, counted from 1, and the number of the field that it names.
 #[derive(Clone, Copy)]
-pub struct Entered {
-    pub reason: u8,
+pub struct Unread {
+    pub reason: Reason,
     pub line: usize,
     pub field: u8,
 }
 
-// What one line was read as.
+// What a text was read as.
+pub type Entered = Result<(), Unread>;
+
+// A line that cannot be read: why, and the number of the field that it names.
 #[derive(Clone, Copy)]
-struct LineRead {
-    reason: u8,
+struct LineUnread {
+    reason: Reason,
     field: u8,
 }
 
@@ -91,86 +96,80 @@ fn put_field(image: &mut [u8], family: u8, n: u8, bytes: &[u8])
 
 // ---- a line
 
+// Is it the notation of an OEM field?
+#[tactic(auto, unfolding(crate::specs::Enter::is_oem))]
 pub(crate) fn is_oem(notation: Notation) -> bool
     ensures { result ≡ is_oem notation }
 {
-    match notation {
-        Notation::Oem => true,
-        Notation::Number => false,
-        Notation::Pairs => false,
-        Notation::Address => false,
-    }
+    matches!(notation, Notation::Oem)
 }
 
 // Why a value that has no bytes cannot be read.
-fn reason_of(oem: bool, text: &[u8]) -> u8
-    ensures { result ≡ reason_of oem (string_of text.now) }
+fn reason_of(oem: bool, text: &[u8]) -> Reason
+    ensures { number_of result ≡ reason_of oem (string_of text.now) }
 {
-    let Decoded::Length(_) = string_length(text) else {
-        return UNREADABLE;
-    };
-    if oem {
-        return TOO_LONG;
+    if oem & string_length(text).is_some() {
+        return Reason::TooLong;
     }
-    UNREADABLE
+    Reason::Unreadable
 }
 
 // Field n is given its value.
-fn value_step(image: &mut [u8], given: &mut [u8], family: u8, n: u8, text: &[u8]) -> LineRead
-    ensures { step_with result image.new given.new
-        ≡ value_step family (draft_with image.old given.old) n text.now
-        (field_bytes family n text.now) }
+fn value_step(
+    image: &mut [u8],
+    given: &mut [u8],
+    family: u8,
+    n: u8,
+    text: &[u8],
+) -> Result<(), LineUnread>
+    ensures { IsStep result image.new given.new
+        (value_step family (draft_with image.old given.old) n text.now
+        (field_bytes family n text.now)) }
 {
     let field = field_at(family, n);
-    let notation = field.notation;
-    let width = field.width as usize;
-    let value = read_value(family, n, text);
-    if !value.ok {
-        return LineRead {
-            reason: reason_of(is_oem(notation), text),
-            field: n,
-        };
-    }
-    let bytes = value.bytes;
-    put_field(image, family, n, part(&bytes, 0, width));
+    let Some(bytes) = read_value(family, n, text) else {
+        let reason = reason_of(is_oem(field.notation), text);
+        return Err(LineUnread { reason, field: n });
+    };
+    put_field(image, family, n, part(&bytes, 0, field.width as usize));
     put_byte(given, n as usize, 1);
-    LineRead {
-        reason: 0,
-        field: n,
-    }
+    Ok(())
 }
 
 // Field n, where there is one, is given its value, unless it has one.
-fn field_step(image: &mut [u8], given: &mut [u8], family: u8, n: usize, text: &[u8]) -> LineRead
-    ensures { step_with result image.new given.new
-        ≡ field_step family (draft_with image.old given.old) n text.now }
+fn field_step(
+    image: &mut [u8],
+    given: &mut [u8],
+    family: u8,
+    n: usize,
+    text: &[u8],
+) -> Result<(), LineUnread>
+    ensures { IsStep result image.new given.new
+        (field_step family (draft_with image.old given.old) n text.now) }
 {
     if field_count(family) as usize <= n {
-        return LineRead {
-            reason: NO_SUCH_FIELD,
+        return Err(LineUnread {
+            reason: Reason::NoSuchField,
             field: 0,
-        };
+        });
     }
     if byte_at(given, n) == 1 {
-        return LineRead {
-            reason: GIVEN_BEFORE,
+        return Err(LineUnread {
+            reason: Reason::GivenBefore,
             field: n as u8,
-        };
+        });
     }
     value_step(image, given, family, n as u8, text)
 }
 
 // Reads a line.
-fn line_step(image: &mut [u8], given: &mut [u8], family: u8, line: &[u8]) -> LineRead
-    ensures { step_with result image.new given.new
-        ≡ line_step family (draft_with image.old given.old) line.now }
+fn line_step(image: &mut [u8], given: &mut [u8], family: u8, line: &[u8]) -> Result<(), LineUnread>
+    ensures { IsStep result image.new given.new
+        (line_step family (draft_with image.old given.old) line.now) }
 {
     let said = trimmed(line);
     if says_nothing(said) {
-        return LineRead {
-            reason: 0,
-            field: 0,
-        };
+        return Ok(());
     }
     let n = field_named(family, field_text(said));
     field_step(image, given, family, n, value_of(said))
@@ -184,29 +183,21 @@ fn enter_lines(family: u8, text: &[u8], image: &mut [u8], given: &mut [u8]) -> E
     ensures { outcome_with result image.new given.new
         ≡ lines_from family (draft_with image.old given.old) 1 (pieces 10 text.now) }
 {
-    let mut start: usize = 0;
     let mut line: usize = 1;
-    loop {
-        let rest = &text[start..];
-        let size = index_of(rest, b'\n');
-        let read = line_step(image, given, family, &rest[..size]);
-        if read.reason != 0 {
-            return Entered {
-                reason: read.reason,
-                line,
-                field: read.field,
-            };
+    for said in text.split(|b| *b == b'\n') {
+        match line_step(image, given, family, said) {
+            Ok(()) => {}
+            Err(unread) => {
+                return Err(Unread {
+                    reason: unread.reason,
+                    line,
+                    field: unread.field,
+                });
+            }
         }
-        if size == rest.len() {
-            return Entered {
-                reason: 0,
-                line: 0,
-                field: 0,
-            };
-        }
-        start += size + 1;
         line += 1;
     }
+    Ok(())
 }
 
 // Reads the text of a table of this family: the image then has its fields at their own places, and zeros elsewhere. Where a

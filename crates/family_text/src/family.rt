@@ -1,13 +1,13 @@
 // The family of a line and of a text, and a line of another family.
 ghost use Rattle.std.specs.Prelude.{◌≡◌};
 ghost use Rattle.text.specs.Split.{pieces};
-ghost use Rattle.family_text.specs.Family.{says_nothing, begins, is_ibft, family_named, line_family, text_family, stray_from, stray_in};
+ghost use Rattle.family_text.specs.Family.{says_nothing, begins, is_ibft, family_named, line_family, text_family, stray_from, stray_in, stray_read};
 
 use crate::fields::{ABFT, IBFT, NONE, SBFT};
 use octets::read::{byte_at, part};
-use text::split::{field_text, index_of, same, trimmed};
+use text::split::{field_text, same, trimmed};
 
-// A line, counted from 1, that is of another family than its text, and which; 0 and 0 where there is none.
+// A line, counted from 1, that is of another family than its text, and which.
 #[derive(Clone, Copy)]
 pub struct Stray {
     pub line: usize,
@@ -15,6 +15,7 @@ pub struct Stray {
 }
 
 // Does a line without the blanks at its ends say nothing?
+#[tactic(auto, unfolding(crate::specs::Family::says_nothing))]
 pub(crate) fn says_nothing(line: &[u8]) -> bool
     ensures { result ≡ says_nothing line.now }
 {
@@ -29,22 +30,18 @@ fn begins(front: &[u8], name: &[u8]) -> bool
 }
 
 // Is it the name of a field that only an iBFT has?
+#[tactic(auto, unfolding(crate::specs::Family::is_ibft, octets::specs::Counting::tabulate))]
 fn is_ibft(name: &[u8]) -> bool
     ensures { result ≡ is_ibft name.now }
 {
-    if begins(b"control", name) {
-        return true;
-    }
-    if begins(b"initiator.", name) {
-        return true;
-    }
-    if begins(b"nic", name) {
-        return true;
-    }
-    begins(b"target", name)
+    begins(b"control", name)
+        || begins(b"initiator.", name)
+        || begins(b"nic", name)
+        || begins(b"target", name)
 }
 
 // The family of a field by its name.
+#[tactic(auto, unfolding(crate::specs::Family::family_named, octets::specs::Counting::tabulate))]
 fn family_named(name: &[u8]) -> u8
     ensures { result ≡ family_named name.now }
 {
@@ -75,48 +72,36 @@ fn line_family(line: &[u8]) -> u8
 pub fn family_of(text: &[u8]) -> u8
     ensures { result ≡ text_family text.now }
 {
-    let mut start: usize = 0;
-    loop {
-        let rest = &text[start..];
-        let size = index_of(rest, b'\n');
-        let family = line_family(&rest[..size]);
+    for line in text.split(|b| *b == b'\n') {
+        let family = line_family(line);
         if family != NONE {
             return family;
         }
-        if size == rest.len() {
-            return IBFT;
-        }
-        start += size + 1;
     }
+    IBFT
 }
 
 // The first line that has a family and not this one. (There is at most one line more than there are bytes.)
-fn stray_from(family: u8, text: &[u8]) -> Stray
-    ensures { result ≡ stray_from family 1 (pieces 10 text.now) }
+fn stray_from(family: u8, text: &[u8]) -> Option<Stray>
+    ensures { result ≡ stray_read (stray_from family 1 (pieces 10 text.now)) }
 {
-    let mut start: usize = 0;
     let mut line: usize = 1;
-    loop {
-        let rest = &text[start..];
-        let size = index_of(rest, b'\n');
-        let found = line_family(&rest[..size]);
+    for said in text.split(|b| *b == b'\n') {
+        let found = line_family(said);
         if (found != NONE) & (found != family) {
-            return Stray {
+            return Some(Stray {
                 line,
                 family: found,
-            };
+            });
         }
-        if size == rest.len() {
-            return Stray { line: 0, family: 0 };
-        }
-        start += size + 1;
         line += 1;
     }
+    None
 }
 
 // The first line of a text that has a family and not the text's.
-pub fn stray_line(text: &[u8]) -> Stray
-    ensures { result ≡ stray_in text.now }
+pub fn stray_line(text: &[u8]) -> Option<Stray>
+    ensures { result ≡ stray_read (stray_in text.now) }
 {
     stray_from(family_of(text), text)
 }

@@ -9,7 +9,8 @@ use text::put::put_text;
 use text::words::{word_at, word_number};
 
 // The families by number. A line may be of none. The fields here are those of an aBFT and of an sBFT: every number but the
-// sBFT's is taken for the aBFT's, since an iBFT has a text of its own (record_text).
+// sBFT's is taken for the aBFT's, since an iBFT has a text of its own (record_text). (Numbers and no enum: the public functions
+// take every number, and `family_named` of the specs answers one of these four.)
 pub const IBFT: u8 = 0;
 
 pub const ABFT: u8 = 1;
@@ -58,7 +59,8 @@ fn field(notation: Notation, part: u8, at: u8, width: u8) -> FieldLayout
     }
 }
 
-// Field n of an aBFT; past the last, the first.
+// Field n of an aBFT; past the last, the first. (A match and no array: the value of a constant cannot hold a call, and written
+// out each field takes six lines.)
 fn abft_field(n: u8) -> FieldLayout
     ensures { result ≡ get_or abft_fields.layout n (field Oem 0 10 6) }
 {

@@ -48,8 +48,7 @@ fn bytes_in(t: &[u8], field: FieldLayout) -> &[u8]
 fn is_told(t: &[u8], field: FieldLayout) -> bool
     ensures { result ≡ is_told t.now field }
 {
-    let notation = field.notation;
-    if is_oem(notation) {
+    if is_oem(field.notation) {
         return !all_zero(bytes_in(t, field));
     }
     is_there(t, field.part)
@@ -63,10 +62,9 @@ fn put_line(room: &mut [u8], at: usize, family: u8, t: &[u8], n: u8) -> usize
     if !is_told(t, field) {
         return put_text(room, at, b"");
     }
-    let notation = field.notation;
     let name = put_name(room, at, family, n);
     let space = put_char(room, name, b' ');
-    let value = put_value(room, space, notation, field.width, bytes_in(t, field));
+    let value = put_value(room, space, field.notation, field.width, bytes_in(t, field));
     put_char(room, value, b'\n')
 }
 
@@ -76,12 +74,9 @@ fn put_line(room: &mut [u8], at: usize, family: u8, t: &[u8], n: u8) -> usize
 fn put_lines(room: &mut [u8], family: u8, t: &[u8]) -> usize
     ensures { Puts room.old room.new 0 result (lines_text family t.now) }
 {
-    let count = field_count(family);
     let mut end: usize = 0;
-    let mut n: u8 = 0;
-    while n < count {
+    for n in 0..field_count(family) {
         end = put_line(room, end, family, t, n);
-        n += 1;
     }
     end
 }
@@ -102,7 +97,7 @@ pub fn tell(room: &mut [u8], family: u8, t: &[u8]) -> usize
     ensures { Puts room.old room.new 0 result (table_text family t.now) }
 {
     match check_of(family, t) {
-        Verdict::Accepted => put_lines(room, family, t),
-        Verdict::Refused(_) => put_text(room, 0, b""),
+        Ok(()) => put_lines(room, family, t),
+        Err(_) => put_text(room, 0, b""),
     }
 }

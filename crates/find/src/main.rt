@@ -6,23 +6,17 @@
 #![tactic(auto)]
 
 ghost use Rattle.std.specs.Prelude.{◌≡◌, ℕ, ◌+◌, ◌^◌, ◌≤◌, ◌<◌, length};
-ghost use Rattle.io.specs.Counts.{IsPrefixLen};
 ghost use Rattle.octets.specs.Counting.{first};
 ghost use Rattle.octets.specs.Octets.{byte, differs};
 
-use notation::number::{Number, read_number};
+use bench_io::{argument, write_refusal};
+use notation::number::read_number;
 use octets::read::part;
-use refusal_text::{LINE_SIZE, put_refusal};
-use scan::{Family, Scanned, scan_for, table_for};
+use scan::{Family, scan_for, table_for};
 use std::env::Env;
+use std::fmt;
 use table_header::verdict::Refusal;
 use text::split::same;
-
-const STDIN: i32 = 0;
-
-const STDOUT: i32 = 1;
-
-const STDERR: i32 = 2;
 
 // Room for all memory up to the end of the highest window, 0x100000, and one byte that tells a longer dump.
 const MEMORY_SIZE: usize = 0x100001;
@@ -30,62 +24,39 @@ const MEMORY_SIZE: usize = 0x100001;
 // An operating system that shows memory as zeros does so page by page.
 const PAGE: usize = 4096;
 
-// The families by number, in the order in which they are said; and all of them.
-const IBFT: u8 = 0;
-
-const ABFT: u8 = 1;
-
-const SBFT: u8 = 2;
-
-const ALL: u8 = 3;
-
-// A number that is no family's.
-const UNKNOWN: u8 = 4;
-
-fn family(n: u8) -> Family {
-    match n {
-        1 => Family::ABFT,
-        2 => Family::SBFT,
-        _ => Family::IBFT,
-    }
+// The families, in the order in which they are said.
+#[derive(Clone, Copy)]
+enum Kind {
+    Ibft,
+    Abft,
+    Sbft,
 }
 
-fn print_family(n: u8) {
-    match n {
-        1 => {
-            io::write_all(STDOUT, b"aBFT");
-        }
-        2 => {
-            io::write_all(STDOUT, b"sBFT");
-        }
-        _ => {
-            io::write_all(STDOUT, b"iBFT");
+impl Kind {
+    fn family(self) -> Family {
+        match self {
+            Kind::Ibft => Family::IBFT,
+            Kind::Abft => Family::ABFT,
+            Kind::Sbft => Family::SBFT,
         }
     }
 }
 
-fn print_refusal(fd: i32, number: u8) {
-    let mut room = [0u8; LINE_SIZE];
-    let end = put_refusal(
-        &mut room,
-        0,
-        Refusal {
-            number,
-            place: 0,
-            checksum: 0,
-        },
-    );
-    io::write_all(fd, part(&room, 0, end));
+impl fmt::Display for Kind {
+    fn fmt<W: fmt::Write>(&self, f: &mut fmt::Formatter<W>) -> fmt::Result {
+        f.write_str(match self {
+            Kind::Ibft => "iBFT",
+            Kind::Abft => "aBFT",
+            Kind::Sbft => "sBFT",
+        })
+    }
 }
 
-fn print_found(n: u8, s: Scanned) {
-    io::write_all(STDOUT, b"table 0x");
-    io::print_hex(STDOUT, s.address, 1);
-    io::write_all(STDOUT, b" ");
-    io::print_decimal(STDOUT, s.length as u64);
-    io::write_all(STDOUT, b" ");
-    print_family(n);
-    io::write_all(STDOUT, b"\n");
+// What is looked for.
+#[derive(Clone, Copy)]
+enum Wanted {
+    All,
+    One(Kind),
 }
 
 // With how many zero bytes the memory begins.
@@ -93,135 +64,139 @@ fn zeros_of(memory: &[u8]) -> usize
     ensures { (result ≡ first (length memory.now) (λ (k : ℕ). differs (byte memory.now k) 0))
         × (result ≤ length memory.now) }
 {
-    let mut n = 0;
-    while n < memory.len() {
-        if memory[n] != 0 {
+    for (n, b) in memory.iter().enumerate() {
+        if *b != 0 {
             return n;
         }
-        n += 1;
     }
-    n
-}
-
-fn print_zeros(from: u64, to: u64) {
-    io::write_all(
-        STDERR,
-        b"find: the dump holds nothing but zero bytes from 0x",
-    );
-    io::print_hex(STDERR, from, 1);
-    io::write_all(STDERR, b" to 0x");
-    io::print_hex(STDERR, to, 1);
-    io::write_all(STDERR, b"\n");
+    memory.len()
 }
 
 // Says so where the memory that starts at the address is all zeros, or is so for a page or more.
-fn tell_zeros(memory: &[u8], address: u64)
+fn tell_zeros(rt: &impl Eprint, memory: &[u8], address: u64) -> std::io::Result<()>
     requires { address + length memory.now < 2 ^ 64 }
 {
     let n = zeros_of(memory);
     if n == 0 {
-        return;
+        return Ok(());
     }
     if n < memory.len() && n < PAGE {
-        return;
+        return Ok(());
     }
-    print_zeros(address, address + (n as u64 - 1));
+    let last = address + (n as u64 - 1);
+    eprintln!(rt; "find: the dump holds nothing but zero bytes from 0x{address:x} to 0x{last:x}")
 }
 
 // The memory up to the end of the family's window: what a dump has above it is not the family's.
 fn below_end(f: Family, memory: &[u8], address: u64) -> &[u8] {
-    if f.high <= address {
-        return part(memory, 0, 0);
-    }
-    part(memory, 0, (f.high - address) as usize)
+    part(memory, 0, f.high.saturating_sub(address) as usize)
 }
 
-// Says the table of family n in a line, or writes its bytes, where there is one.
-fn tell_found(n: u8, memory: &[u8], address: u64, bytes: bool) -> bool {
-    let f = family(n);
+// Says the table of this family in a line, or writes its bytes, where there is one; answers whether there is.
+fn tell_found(
+    rt: &impl Print,
+    kind: Kind,
+    memory: &[u8],
+    address: u64,
+    bytes: bool,
+) -> std::io::Result<bool> {
+    let f = kind.family();
     let window = below_end(f, memory, address);
     let scanned = scan_for(f, window, address);
     if scanned.number != 0 {
-        return false;
+        return Ok(false);
     }
     if bytes {
-        io::write_all(STDOUT, table_for(f, window, address));
+        rt.write_all(table_for(f, window, address))?;
     } else {
-        print_found(n, scanned);
+        println!(rt; "table 0x{:x} {} {kind}", scanned.address, scanned.length)?;
     }
-    true
+    Ok(true)
 }
 
-// The same of each family.
-fn tell_all(memory: &[u8], address: u64) -> bool {
-    let ibft = tell_found(IBFT, memory, address, false);
-    let abft = tell_found(ABFT, memory, address, false);
-    let sbft = tell_found(SBFT, memory, address, false);
-    ibft | abft | sbft
+fn tell_wanted(
+    rt: &impl Print,
+    wanted: Wanted,
+    memory: &[u8],
+    address: u64,
+    bytes: bool,
+) -> std::io::Result<bool> {
+    match wanted {
+        Wanted::One(kind) => tell_found(rt, kind, memory, address, bytes),
+        Wanted::All => {
+            let mut found = false;
+            for kind in [Kind::Ibft, Kind::Abft, Kind::Sbft] {
+                found |= tell_found(rt, kind, memory, address, false)?;
+            }
+            Ok(found)
+        }
+    }
 }
 
-fn tell_wanted(wanted: u8, memory: &[u8], address: u64, bytes: bool) -> bool {
-    if wanted == ALL {
-        return tell_all(memory, address);
+fn refused(number: u8) -> Refusal {
+    Refusal {
+        number,
+        place: 0,
+        checksum: 0,
     }
-    tell_found(wanted, memory, address, bytes)
+}
+
+// A refusal goes to standard error where the table's bytes would go to standard output.
+fn tell_refusal(rt: &HostRuntime, number: u8, bytes: bool) -> std::io::Result<()> {
+    if bytes {
+        return write_refusal(&mut rt.stderr(), refused(number));
+    }
+    write_refusal(&mut rt.stdout(), refused(number))
 }
 
 // What is found in the memory that starts at the address. (No dump goes past the end of the iBFT's window, which is the
 // highest.)
-fn answer(wanted: u8, memory: &[u8], address: u64, bytes: bool) {
-    let fd = if bytes { STDERR } else { STDOUT };
+fn answer(
+    rt: &HostRuntime,
+    wanted: Wanted,
+    memory: &[u8],
+    address: u64,
+    bytes: bool,
+) -> std::io::Result<()> {
     let scanned = scan_for(Family::IBFT, memory, address);
     if scanned.number == 1 {
-        print_refusal(fd, 1);
-        return;
+        return tell_refusal(rt, 1, bytes);
     }
-    if tell_wanted(wanted, memory, address, bytes) {
-        return;
+    if tell_wanted(rt, wanted, memory, address, bytes)? {
+        return Ok(());
     }
-    print_refusal(fd, 2);
-    tell_zeros(memory, address);
+    tell_refusal(rt, 2, bytes)?;
+    tell_zeros(rt, memory, address)
 }
 
 // Reads the dump into the memory and looks through it.
-fn find_in(memory: &mut [u8], wanted: u8, address: u64, bytes: bool) {
-    let n = io::read_full(STDIN, memory);
-    answer(wanted, part(memory, 0, n), address, bytes);
+fn find_in(
+    rt: &HostRuntime,
+    memory: &mut [u8],
+    wanted: Wanted,
+    address: u64,
+    bytes: bool,
+) -> std::io::Result<()> {
+    let n = io::read_full(0, memory);
+    answer(rt, wanted, part(memory, 0, n), address, bytes)
 }
 
-fn find(wanted: u8, address: u64, bytes: bool) {
+fn find(rt: &HostRuntime, wanted: Wanted, address: u64, bytes: bool) -> std::io::Result<()> {
     let mut memory = [0u8; MEMORY_SIZE];
-    find_in(&mut memory, wanted, address, bytes);
+    find_in(rt, &mut memory, wanted, address, bytes)
 }
 
-fn family_named(name: &[u8]) -> u8 {
-    if name.len() == 0 {
-        return ALL;
-    }
-    if same(name, b"ibft") {
-        return IBFT;
-    }
-    if same(name, b"abft") {
-        return ABFT;
-    }
-    if same(name, b"sbft") {
-        return SBFT;
-    }
-    UNKNOWN
-}
-
-// Puts the program's argument k at the start of buf and answers its length, or 0 where it is missing or longer than buf. One
-// that is too long leaves its first bytes in buf.
-fn argument(rt: &impl Env, k: usize, buf: &mut [u8]) -> usize
-    ensures { IsPrefixLen result buf.new }
-{
-    match rt.arg(k, buf) {
-        Ok(n) => n,
-        Err(_) => 0,
+fn family_named(name: &[u8]) -> Option<Wanted> {
+    match name {
+        b"" => Some(Wanted::All),
+        b"ibft" => Some(Wanted::One(Kind::Ibft)),
+        b"abft" => Some(Wanted::One(Kind::Abft)),
+        b"sbft" => Some(Wanted::One(Kind::Sbft)),
+        _ => None,
     }
 }
 
-fn wanted_family(rt: &impl Env) -> u8 {
+fn wanted_family(rt: &impl Env) -> Option<Wanted> {
     let mut text = [0u8; 32];
     let n = argument(rt, 2, &mut text);
     family_named(part(&text, 0, n))
@@ -233,26 +208,14 @@ fn wants_bytes(rt: &impl Env) -> bool {
     same(part(&text, 0, n), b"bytes")
 }
 
-// Finds what the arguments behind the address ask for.
-fn find_wanted(rt: &impl Env, address: u64) {
-    let wanted = wanted_family(rt);
-    if wanted == UNKNOWN {
-        io::write_all(STDERR, b"find: the families are ibft, abft and sbft\n");
-        return;
-    }
-    find(wanted, address, wants_bytes(rt));
-}
-
-fn main(rt: HostRuntime) {
+fn main(rt: HostRuntime) -> std::io::Result<()> {
     let mut text = [0u8; 32];
     let n = argument(&rt, 1, &mut text);
-    match read_number(0xFFFFFFFFFFFFFFFF, part(&text, 0, n)) {
-        Number::Value(address) => find_wanted(&rt, address),
-        Number::Bad => {
-            io::write_all(
-                STDERR,
-                b"find: give the address of the dump's first byte, as 0x9f000\n",
-            );
-        }
-    }
+    let Some(address) = read_number(u64::MAX, part(&text, 0, n)) else {
+        return eprintln!(rt; "find: give the address of the dump's first byte, as 0x9f000");
+    };
+    let Some(wanted) = wanted_family(&rt) else {
+        return eprintln!(rt; "find: the families are ibft, abft and sbft");
+    };
+    find(&rt, wanted, address, wants_bytes(&rt))
 }

@@ -10,7 +10,7 @@ use ibft_readings::entry::read_entry;
 use ibft_readings::login::login_order;
 use ibft_readings::pci::split_pci;
 use ibft_readings::structure::read_structure;
-use octets::read::{byte_at, sixteen_at, u64_at};
+use octets::read::{array_at, byte_at, u64_at};
 use table_header::verdict::Refusal;
 
 // Number and place of a refusal.
@@ -111,7 +111,7 @@ pub extern "C" fn test_login_checksum(t: &[u8]) -> u8
 pub extern "C" fn test_address_kind(a: &[u8]) -> u64
     ensures { result ≡ address_number (address_kind_of (bytes_at a.now 0 16)) }
 {
-    match address_kind(sixteen_at(a, 0)) {
+    match address_kind(array_at(a, 0)) {
         AddressKind::Absent => 0,
         AddressKind::Ipv4Mapped => 1,
         AddressKind::Other => 2,

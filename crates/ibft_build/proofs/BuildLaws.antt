@@ -8,10 +8,8 @@ use mathlib.Core.List.{List, ◌++◌}
 use Prim.Native.Nat.{ℕ, ◌≤◌, ◌<◌}
 use lib.ListN.{length, drop}
 use borrow.Author.Tests.{lt-ltb, le-ltb}
-use Rattle.table_header.specs.Verdict.{refusal, accepted, refusal_of}
+use Rattle.table_header.specs.Verdict.{refusal, accepted, refusal_of, Verdict, Accepted, Refused}
 use Rattle.table_header.specs.declared.verdict.Refusal.{Refusal}
-use Rattle.table_header.specs.declared.verdict.Verdict.{Verdict}
-use Rattle.table_header.specs.declared.verdict.Verdict.TheVariants.{Accepted, Refused}
 use Rattle.table_header.proofs.VerdictLaws.{accept-none, accept-cons, fail-cons, append-accepted, append-refused}
 use Rattle.ibft_build_rules.specs.RecordRange.{content_given}
 use Rattle.ibft_build_rules.specs.Refusals.{contents_tests, contents_verdict}

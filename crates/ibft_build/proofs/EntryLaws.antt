@@ -1,25 +1,26 @@
 -- Laws of the entries that a record range gives.
---     limit-most, limit-below   the limit that code is lent is no more than all entries, so each below it is an entry
+--     limit-most                the limit that code is lent is no more than all entries
 --     entry-some, entry-none    an entry that is present, and one that is missing
 --     entries-past              from the limit on entries are missing
 --     field-on, field_past      where the range holds its words, as the code returns it; from the limit on nowhere
---     fields_at, fields-count   what stands in the list of these
+--     fields_at                 what stands in the list of these
 --     start_is, length-is       its start and its length, as the code reads them
 --     wanted-on, wanted-off     what it wants in the heap, as the code returns it
 --     wanted-past               from the limit on nothing
 --     wanted-at, wanted-there   what stands in the list of these
---     lies_at                   an entry that wants something is present and lies in the strings range
+--     bytes-length              how long its bytes are
+--     lies_at                   an entry that wants something is present, and its bytes are as long as it wants
 -- Assumes nothing.
-use mathlib.Core.Path.{◌≡◌, refl, sym, ap, ap₂, ◌∙◌}
+use Rattle.std.specs.Prelude.{None, Some}
+use mathlib.Core.Path.{◌≡◌, refl, sym, ap, ◌∙◌}
 use mathlib.Core.Bool.{Bool, true, false, cond}
-use mathlib.Core.Option.{none, some}
 use mathlib.Core.List.{List}
 use Prim.Native.Nat.{ℕ, ◌+◌, ◌-◌, ◌≤◌, ◌<◌}
 use native.Mathlib.Omega.{arith}
 use lib.ListN.{length, get_or}
 use borrow.Author.Tests.{lt-ltb, le-ltb}
-use Rattle.octets.proofs.CountingLaws.{length-tabulate, get_d_tabulate}
-use Rattle.octets.specs.Octets.{word16, part}
+use Rattle.octets.proofs.CountingLaws.{get_d_tabulate}
+use Rattle.octets.specs.Octets.{word16}
 use Rattle.octets.proofs.ReadLaws.{part_length}
 use Rattle.ibft_layout.specs.Layout.{entry_count, owner_of, string_of}
 use Rattle.ibft_table.specs.Record.{shown_if}
@@ -31,19 +32,16 @@ use Rattle.ibft_record.proofs.RecordLaws.{entry_past, entry-limit-most}
 pub limit-most : (r : List ℕ) (limit : ℕ) → limit ≡ entry_limit r → limit ≤ entry_count
 limit-most r limit e = omega (arith, entry-limit-most r)
 
-pub limit-below : (r : List ℕ) (n : ℕ) → n < entry_limit r → n < entry_count
-limit-below r n h = omega (arith, entry-limit-most r)
-
 module _ (r s : List ℕ) (n : ℕ) where
-  pub entry-some : entry_given r n ≡ true → entries_given r s n ≡ some (bytes_given r s n)
+  pub entry-some : entry_given r n ≡ true → entries_given r s n ≡ Some (bytes_given r s n)
   unfolding content_given
   entry-some h = ap (λ (b : Bool). shown_if b (bytes_given r s n)) h
 
-  pub entry-none : entry_given r n ≡ false → entries_given r s n ≡ none
+  pub entry-none : entry_given r n ≡ false → entries_given r s n ≡ None
   unfolding content_given
   entry-none h = ap (λ (b : Bool). shown_if b (bytes_given r s n)) h
 
-  pub entries-past : entry_limit r ≤ n → entries_given r s n ≡ none
+  pub entries-past : entry_limit r ≤ n → entries_given r s n ≡ None
   entries-past h = entry-none (entry_past r n h)
 
 -- ---- where the range holds an entry's words
@@ -63,10 +61,6 @@ module _ (r : List ℕ) (n : ℕ) where
   length-is f v at e = e ∙ ap (word16 r) at
 
 module _ (r fields : List ℕ) (are : fields ≡ entry_fields r) where
-  pub fields-count : length fields ≡ entry_count
-  unfolding entry_fields
-  fields-count = ap length are ∙ length-tabulate (field_given r) 0 entry_count
-
   pub fields_at : (n : ℕ) → n < entry_limit r → get_or fields n 0 ≡ image_at r (owner_of n) + (string_of n).at
   unfolding entry_fields
   fields_at n h =
@@ -111,28 +105,26 @@ wanted-at r wanted e n h = ap (λ (l : List ℕ). get_or l n 0) e ∙ get_d_tabu
 pub wanted-there : (r wanted : List ℕ) → wanted ≡ wanted_sizes r → (n : ℕ) → n < entry_count → entry_given r n ≡ true → get_or wanted n 0 ≡ length_given r n + 1
 wanted-there r wanted e n h on = wanted-at r wanted e n h ∙ sym (wanted-on r n on (length_given r n) refl)
 
-pub wanted-count : (r wanted : List ℕ) → wanted ≡ wanted_sizes r → length wanted ≡ entry_count
-unfolding wanted_sizes
-wanted-count r wanted e = ap length e ∙ length-tabulate (wanted_given r) 0 entry_count
+-- ---- its bytes
 
--- entry n wants w and starts at `start`
-pub record Lies (r s : List ℕ) (n w start : ℕ) : Type 0 where
+pub bytes-length : (r s : List ℕ) (n : ℕ) → Readable r s → n < entry_count → entry_given r n ≡ true → length (bytes_given r s n) ≡ length_given r n
+unfolding bytes_given
+bytes-length r s n sound h on = part_length s (start_given r n) (length_given r n) (sound.lies n h on)
+
+-- entry n wants w
+pub record Lies (r s : List ℕ) (n w : ℕ) : Type 0 where
   pub given : entry_given r n ≡ true
-  pub is : entries_given r s n ≡ some (part s start (w - 1))
-  pub fits : start + (w - 1) ≤ length s
-  pub length-is : length (part s start (w - 1)) ≡ w - 1
+  pub is : entries_given r s n ≡ Some (bytes_given r s n)
+  pub length-is : length (bytes_given r s n) ≡ w - 1
   pub small : w ≤ 256
 
-pub lies_at : (r s : List ℕ) (n : ℕ) → Readable r s → n < entry_count → (w start : ℕ) → w ≡ wanted_given r n → 0 < w → start ≡ start_given r n → Lies r s n w start
-unfolding bytes_given
-lies_at r s n sound h w start e pos at =
+pub lies_at : (r s : List ℕ) (n : ℕ) → Readable r s → n < entry_count → (w : ℕ) → w ≡ wanted_given r n → 0 < w → Lies r s n w
+lies_at r s n sound h w e pos =
     let on = wanted-given r n (omega arith) in
-    let long : w - 1 ≡ length_given r n = omega (arith, wanted-on r n on (length_given r n) refl) in
-    let fits : start + (w - 1) ≤ length s = omega (arith, sound.lies n h on) in
+    let long = wanted-on r n on (length_given r n) refl in
     record {
       given = on;
-      is = entry-some r s n on ∙ sym (ap₂ (λ (a m : ℕ). some (part s a m)) at long);
-      fits = fits;
-      length-is = part_length s start (w - 1) fits;
+      is = entry-some r s n on;
+      length-is = omega (arith, bytes-length r s n sound h on);
       small = omega (arith, sound.short n h on);
     }

@@ -3,16 +3,16 @@
 --     heap-none, heap-next     the loop over the entries
 --     heap-whole               the stretch once all are written
 -- Assumes nothing.
+use Rattle.std.specs.Prelude.{None, Some}
 use mathlib.Core.Path.{◌≡◌, refl, sym, ap, ap₂, ◌∙◌}
 use mathlib.Core.Bool.{Bool, true, false}
-use mathlib.Core.Option.{none, some}
 use mathlib.Core.List.{List, [], ◌∷◌}
 use Prim.Native.Nat.{ℕ, ◌+◌, ◌-◌, ◌<◌}
 use native.Mathlib.Numerals.{add-one}
 use native.Mathlib.Omega.{arith}
 use lib.ListN.{length}
 use Rattle.octets.specs.Counting.{sum_to}
-use Rattle.octets.specs.Octets.{part, write}
+use Rattle.octets.specs.Octets.{write}
 use Rattle.octets.proofs.CountingLaws.{clash}
 use Rattle.octets.proofs.WriteLaws.{write-nothing}
 use Rattle.string_heap.specs.Stored.{Entry, stored, heap_size}
@@ -20,7 +20,7 @@ use Rattle.string_heap.specs.Places.{bytes_of, heap_to}
 use Rattle.string_heap.proofs.HolderLaws.{heap-length}
 use Rattle.string_heap.proofs.CutLaws.{heap_to-past}
 use Rattle.ibft_layout.specs.Layout.{entry_count, may_share}
-use Rattle.ibft_build_rules.specs.RecordRange.{start_given}
+use Rattle.ibft_build_rules.specs.RecordRange.{bytes_given}
 use Rattle.ibft_record.specs.Limits.{entry_limit}
 use Rattle.ibft_build.specs.Planning.{Readable, entries_given, size_given}
 use Rattle.ibft_record.proofs.RecordLaws.{entry-limit-most, entry_past}
@@ -30,13 +30,13 @@ use Rattle.ibft_build.proofs.PatchLaws.{write_then, write-all}
 
 -- entry n takes w
 module _ (r s : List ℕ) (sound : Readable r s) (n : ℕ) (h : n < entry_count) (w : ℕ) (takes : w ≡ size_given r s n) (t : List ℕ) (at : ℕ) where
-  pub entry-put : 0 < w → (start : ℕ) (bytes u v : List ℕ) → start ≡ start_given r n → bytes ≡ part s start (w - 1) → u ≡ write t at bytes
+  pub entry-put : 0 < w → (bytes u v : List ℕ) → bytes ≡ bytes_given r s n → u ≡ write t at bytes
       → v ≡ write u (at + (w - 1)) (0 ∷ []) → v ≡ write t at (bytes_of (entries_given r s n) (stored entry_count may_share (entries_given r s) n))
   unfolding bytes_of
-  entry-put pos start bytes u v es eb eu ev =
-      let lies = size-lies r s n sound h w takes pos start es in
+  entry-put pos bytes u v eb eu ev =
+      let lies = size-lies r s n sound h w takes pos in
       let long = lies.length-is in
-      write_then t u v at (at + (w - 1)) (part s start (w - 1)) (0 ∷ []) (eu ∙ ap (write t at) eb) ev (omega arith)
+      write_then t u v at (at + (w - 1)) (bytes_given r s n) (0 ∷ []) (eu ∙ ap (write t at) eb) ev (omega arith)
       ∙ sym (ap₂ (λ (o : Entry) (b : Bool). write t at (bytes_of o b)) lies.is (size-kept r s n (omega arith)))
 
   pub entry_kept : w ≡ 0 → t ≡ write t at (bytes_of (entries_given r s n) (stored entry_count may_share (entries_given r s) n))
@@ -46,9 +46,9 @@ module _ (r s : List ℕ) (sound : Readable r s) (n : ℕ) (h : n < entry_count)
       (size-gone r s n sound h (omega arith))) ∙ write-nothing t at)
     where
       none_of : (o : Entry) (b : Bool) → b ≡ false → bytes_of o b ≡ []
-      none_of none b q = refl
-      none_of (some a) true q = clash refl q
-      none_of (some a) false q = refl
+      none_of None b q = refl
+      none_of (Some a) true q = clash refl q
+      none_of (Some a) false q = refl
 
 module _ (r s t : List ℕ) where
   pub heap-none : t ≡ write t 0 (heap_to entry_count may_share (entries_given r s) 0)

@@ -1,9 +1,8 @@
 -- Laws of where entries stand, each shaped like what the code returns.
 --     sum-none, sum_more                   a loop that adds up
---     sizes-at, sizes-count                what stands in the list of the sizes
---     sizes-sum                            their sum is the heap's up to there
+--     sizes-at                             what stands in the list of the sizes
 --     size-kept, size-gone                 whether an entry is stored, by what it takes
---     holder-not, holder-secret, holder-tail     whether an entry can hold one that is not stored
+--     holder-not, holder-tail     whether an entry can hold one that is not stored
 --     gone-shares                          an entry that is present and not stored may share
 --     holder-first                           the first that holds it, which is below the limit
 --     place-self, place-holder               where an entry stands
@@ -21,25 +20,23 @@ use borrow.Author.Tests.{eqb-true, not-false}
 use lib.Dec.{eqb}
 use lib.ListN.{length, get_or}
 use Rattle.octets.specs.Counting.{any, first, sum_to}
-use Rattle.octets.specs.Octets.{part}
-use Rattle.octets.proofs.CountingLaws.{clash, first-is, length-tabulate, get_d_tabulate}
+use Rattle.octets.proofs.CountingLaws.{clash, first-is, get_d_tabulate}
 use Rattle.octets.proofs.CutLaws.{first-cut}
-use Rattle.octets.proofs.ReadLaws.{part_length}
 use Rattle.octets.proofs.TestLaws.{and_both, and_no}
 use Rattle.string_heap.specs.Tails.{is_tail}
 use Rattle.string_heap.proofs.TailsLaws.{is_tail-long}
-use Rattle.string_heap.specs.Stored.{Entry, covered_by, stored, stored_as, of_stored, size, heap_size}
+use Rattle.string_heap.specs.Stored.{Entry, covered_by, stored, stored_as, of_stored, heap_size}
 use Rattle.string_heap.specs.Places.{len, ends_with, holds, holder, place}
 use Rattle.string_heap.proofs.Intervals.{sum_to-le}
 use Rattle.string_heap.proofs.HolderLaws.{held, holder-self, placed}
 use Rattle.ibft_layout.specs.Layout.{entry_count, may_share}
-use Rattle.ibft_build_rules.specs.RecordRange.{entry_given, length_given, start_given, bytes_given, content_given}
+use Rattle.ibft_build_rules.specs.RecordRange.{entry_given, length_given, bytes_given, content_given}
 use Rattle.ibft_build_rules.specs.Plan.{heap_start, offset_as, offset_built}
 use Rattle.ibft_build_rules.proofs.BoundLaws.{heap-start-bound}
 use Rattle.ibft_record.specs.Limits.{entry_limit}
 use Rattle.ibft_build.specs.Planning.{Readable, entries_given, wanted_given, size_given, heap_sizes, can_hold}
 use Rattle.ibft_record.proofs.RecordLaws.{entry_past, entry-limit-most}
-use Rattle.ibft_build.proofs.EntryLaws.{entry-some, entry-none, entries-past, wanted-on, Lies, lies_at}
+use Rattle.ibft_build.proofs.EntryLaws.{entry-some, entry-none, entries-past, wanted-on, bytes-length, Lies, lies_at}
 use Rattle.ibft_build.proofs.CoverLaws.{stored-given, size-stored, size_none}
 
 -- ---- sums
@@ -52,11 +49,6 @@ pub sum_more : (f : ℕ → ℕ) (i s v : ℕ) → s ≡ sum_to i f → v ≡ f 
 unfolding sum_to
 sum_more f i s v p q = ap₂ (λ (x y : ℕ). x + y) p q ∙ ap (λ (k : ℕ). sum_to k f) (sym (add-one i))
 
-sum_same : (f g : ℕ → ℕ) (k : ℕ) → ((j : ℕ) → j < k → f j ≡ g j) → sum_to k f ≡ sum_to k g
-unfolding sum_to
-sum_same f g zero h = refl
-sum_same f g (suc k) h = ap₂ (λ (x y : ℕ). x + y) (sum_same f g k (λ j l. h j (omega arith))) (h k (omega arith))
-
 sum-const : (c k : ℕ) → sum_to k (λ (j : ℕ). c) ≡ k * c
 unfolding sum_to
 sum-const c zero = omega arith
@@ -68,13 +60,6 @@ module _ (r s sizes : List ℕ) (are : sizes ≡ heap_sizes r s) where
   pub sizes-at : (n : ℕ) → n < entry_count → get_or sizes n 0 ≡ size_given r s n
   unfolding heap_sizes
   sizes-at n h = ap (λ (l : List ℕ). get_or l n 0) are ∙ get_d_tabulate (size_given r s) entry_count n 0 h
-
-  pub sizes-count : length sizes ≡ entry_count
-  unfolding heap_sizes
-  sizes-count = ap length are ∙ length-tabulate (size_given r s) 0 entry_count
-
-  pub sizes-sum : (k : ℕ) → k ≤ entry_count → (m : ℕ) → m ≡ sum_to k (λ (j : ℕ). get_or sizes j 0) → m ≡ sum_to k (size_given r s)
-  sizes-sum k h m e = e ∙ sum_same (λ (j : ℕ). get_or sizes j 0) (size_given r s) k (λ j l. sizes-at j (omega arith))
 
 module _ (r s : List ℕ) (n : ℕ) where
   pub size-kept : 0 < size_given r s n → stored entry_count may_share (entries_given r s) n ≡ true
@@ -97,16 +82,16 @@ module _ (r s : List ℕ) (n : ℕ) where
       go false st = refl
 
   -- an entry that is stored, w what it takes
-  pub size-lies : Readable r s → n < entry_count → (w : ℕ) → w ≡ size_given r s n → 0 < w → (start : ℕ) → start ≡ start_given r n → Lies r s n w start
-  size-lies sound h w e pos start at =
+  pub size-lies : Readable r s → n < entry_count → (w : ℕ) → w ≡ size_given r s n → 0 < w → Lies r s n w
+  size-lies sound h w e pos =
       let st = size-kept (omega arith) in
       let is = size-stored r s n (wanted_given r n) refl sound h (stored entry_count may_share (entries_given r s) n) refl st in
-      lies_at r s n sound h w start (e ∙ sym is) pos at
+      lies_at r s n sound h w (e ∙ sym is) pos
 
   pub size_small : Readable r s → n < entry_count → size_given r s n ≤ 256
   size_small sound h =
       elim (dec_lt 0 (size_given r s n)) [
-        | yes pos ↦ (size-lies sound h (size_given r s n) refl pos (start_given r n) refl).small
+        | yes pos ↦ (size-lies sound h (size_given r s n) refl pos).small
         | no l ↦ omega arith
       ]
 
@@ -122,33 +107,29 @@ and-true true = refl
 and-true false = refl
 
 -- entry j takes w
-module _ (r s : List ℕ) (sound : Readable r s) (start size : ℕ) (fits : start + size ≤ length s) (j : ℕ)
-    (h : j < entry_count) (w : ℕ) (takes : w ≡ size_given r s j) where
-  holder-short : w ≤ size → (stored entry_count may_share (entries_given r s) j && ends_with (part s start size) (entries_given r s j)) ≡ false
+module _ (r s : List ℕ) (sound : Readable r s) (a : List ℕ) (j : ℕ) (h : j < entry_count) (w : ℕ) (takes : w ≡ size_given r s j) where
+  holder-short : w ≤ length a → (stored entry_count may_share (entries_given r s) j && ends_with a (entries_given r s j)) ≡ false
   unfolding ends_with
   holder-short l =
       elim (dec_lt 0 w) [
         | yes pos ↦
-            let lies = size-lies r s j sound h w takes pos (start_given r j) refl in
-            let short = is_tail-long (part s start size) (part s (start_given r j) (w - 1)) (omega (arith, lies.length-is, part_length s start size fits)) in
-            and_no (stored entry_count may_share (entries_given r s) j) (ends_with (part s start size) (entries_given r s j))
-            (λ kept. ap (ends_with (part s start size)) lies.is ∙ short)
-        | no m ↦ ap (λ (b : Bool). b && ends_with (part s start size) (entries_given r s j)) (size-gone r s j sound h (omega arith))
+            let lies = size-lies r s j sound h w takes pos in
+            let short = is_tail-long a (bytes_given r s j) (omega (arith, lies.length-is)) in
+            and_no (stored entry_count may_share (entries_given r s) j) (ends_with a (entries_given r s j))
+            (λ kept. ap (ends_with a) lies.is ∙ short)
+        | no m ↦ ap (λ (b : Bool). b && ends_with a (entries_given r s j)) (size-gone r s j sound h (omega arith))
       ]
 
-  pub holder-not : w ≤ size → false ≡ can_hold r s (part s start size) j
+  pub holder-not : w ≤ length a → false ≡ can_hold r s a j
   holder-not l = sym (ap (λ (b : Bool). b && may_share j) (holder-short l))
 
-  pub holder-tail : size < w → may_share j ≡ true → (at : ℕ) → at ≡ start_given r j → (t : Bool) → t ≡ is_tail (part s start size) (part s at (w - 1))
-      → t ≡ can_hold r s (part s start size) j
+  -- b is what the code takes for entry j's bytes
+  pub holder-tail : length a < w → may_share j ≡ true → (b : List ℕ) → b ≡ bytes_given r s j → (t : Bool) → t ≡ is_tail a b → t ≡ can_hold r s a j
   unfolding ends_with
-  holder-tail l may at e t is =
-      let lies = size-lies r s j sound h w takes (omega arith) at e in
-      is
-      ∙ sym (rw (size-kept r s j (omega arith), lies.is, may) (and-true (is_tail (part s start size) (part s at (w - 1)))))
-
-pub holder-secret : (r s a : List ℕ) (j : ℕ) → may_share j ≡ false → false ≡ can_hold r s a j
-holder-secret r s a j alone = sym (and_no (stored entry_count may_share (entries_given r s) j && ends_with a (entries_given r s j)) (may_share j) (λ held. alone))
+  holder-tail l may b eb t is =
+      let lies = size-lies r s j sound h w takes (omega arith) in
+      is ∙ ap (is_tail a) eb
+      ∙ sym (rw (size-kept r s j (omega arith), lies.is, may) (and-true (is_tail a (bytes_given r s j))))
 
 -- an entry that is present and not stored may share
 gone-shares : (r s : List ℕ) (i : ℕ) → entry_given r i ≡ true → stored entry_count may_share (entries_given r s) i ≡ false → may_share i ≡ true
@@ -162,15 +143,14 @@ gone-shares r s i given gone =
 
 -- entries from the limit on are missing, and hold none; but there is one that does
 pub holder-first : (r s : List ℕ) (i : ℕ) → i < entry_count → entry_given r i ≡ true → stored entry_count may_share (entries_given r s) i ≡ false
-    → (start size j : ℕ) → start ≡ start_given r i → size ≡ length_given r i → j ≤ entry_limit r
-    → ((k : ℕ) → k < j → can_hold r s (part s start size) k ≡ false)
-    → (t : Bool) → t ≡ can_hold r s (part s start size) j → (j < entry_limit r → t ≡ true)
+    → (a : List ℕ) → a ≡ bytes_given r s i → (j : ℕ) → j ≤ entry_limit r → ((k : ℕ) → k < j → can_hold r s a k ≡ false)
+    → (t : Bool) → t ≡ can_hold r s a j → (j < entry_limit r → t ≡ true)
     → j ≡ holder entry_count may_share (entries_given r s) i (bytes_given r s i)
-unfolding holder holds ends_with bytes_given
-holder-first r s i low given alone start size j p q h before t is here =
-    let test : ℕ → Bool = holds entry_count may_share (entries_given r s) i (part s start size) in
+unfolding holder holds ends_with
+holder-first r s i low given alone a ea j h before t is here =
+    let test : ℕ → Bool = holds entry_count may_share (entries_given r s) i a in
     let own : holder entry_count may_share (entries_given r s) i (bytes_given r s i) ≡ first entry_count test =
-    ap₂ (λ (a n : ℕ). holder entry_count may_share (entries_given r s) i (part s a n)) (sym p) (sym q) in
+    ap (holder entry_count may_share (entries_given r s) i) (sym ea) in
     let below = (held entry_count may_share (entries_given r s) i (bytes_given r s i) low (entry-some r s i given)).below in
     sym (own
     ∙ first-cut (entry_limit r) entry_count test (entry-limit-most r) (λ k l x. both k ∙ gone k l) (omega arith)
@@ -182,24 +162,20 @@ holder-first r s i low given alone start size j p q h before t is here =
     tidy true y true u m may own = clash refl (own refl)
     tidy true y false u m may own = ap (λ (b : Bool). y && (b && m)) may
 
-    both : (k : ℕ) → holds entry_count may_share (entries_given r s) i (part s start size) k ≡ can_hold r s (part s start size) k
+    both : (k : ℕ) → holds entry_count may_share (entries_given r s) i a k ≡ can_hold r s a k
     both k =
-        tidy (stored entry_count may_share (entries_given r s) k) (ends_with (part s start size) (entries_given r s k)) (eqb i k) (may_share i) (may_share k)
+        tidy (stored entry_count may_share (entries_given r s) k) (ends_with a (entries_given r s k)) (eqb i k) (may_share i) (may_share k)
         (gone-shares r s i given alone) (λ e. ap (stored entry_count may_share (entries_given r s)) (sym (eqb-true i k e)) ∙ alone)
 
-    gone : (k : ℕ) → entry_limit r ≤ k → can_hold r s (part s start size) k ≡ false
+    gone : (k : ℕ) → entry_limit r ≤ k → can_hold r s a k ≡ false
     gone k l =
         ap (λ (b : Bool). b && may_share k)
-        (and_no (stored entry_count may_share (entries_given r s) k) (ends_with (part s start size) (entries_given r s k))
-        (λ kept. ap (ends_with (part s start size)) (entries-past r s k l)))
+        (and_no (stored entry_count may_share (entries_given r s) k) (ends_with a (entries_given r s k))
+        (λ kept. ap (ends_with a) (entries-past r s k l)))
 
 -- ---- places
 
 module _ (r s : List ℕ) (sound : Readable r s) (i : ℕ) (h : i < entry_count) (given : entry_given r i ≡ true) where
-  bytes-length : length (bytes_given r s i) ≡ length_given r i
-  unfolding bytes_given
-  bytes-length = part_length s (start_given r i) (length_given r i) (sound.lies i h given)
-
   pub place-self : 0 < size_given r s i → (m : ℕ) → m ≡ sum_to i (size_given r s) → m ≡ place entry_count may_share (entries_given r s) i (bytes_given r s i)
   unfolding place len size_given
   place-self pos m e =
@@ -227,7 +203,7 @@ module _ (r s : List ℕ) (sound : Readable r s) (i : ℕ) (h : i < entry_count)
       ap₂ (λ (o : Entry) (b : Bool). of_stored o b (λ (x : List ℕ). length x + 1)) holder-is.is holder-is.kept in
       let own : len (entries_given r s k) ≡ length holder-is.b = ap len holder-is.is in
       let fits = holder-is.ends.fits in
-      let la = bytes-length in
+      let la = bytes-length r s i sound h given in
       let want = wanted-on r i given (length_given r i) refl in
       let size-j : w ≡ size_given r s k = ew ∙ ap (size_given r s) e in
       let sum-j : m ≡ sum_to k (size_given r s) = em ∙ ap (λ (x : ℕ). sum_to x (size_given r s)) e in

@@ -11,8 +11,7 @@ use lib.ListN.{length}
 use borrow.Author.Tests.{ltb-false}
 use Rattle.octets.specs.Counting.{gather}
 use Rattle.ibft_layout.specs.Layout.{slot_count, entry_count, string_of}
-use Rattle.table_header.specs.Verdict.{Test, first_of}
-use Rattle.table_header.specs.declared.verdict.Verdict.TheVariants.{Accepted}
+use Rattle.table_header.specs.Verdict.{Test, first_of, Accepted}
 use Rattle.table_header.proofs.VerdictLaws.{passes, append-passes, gather-passes}
 use Rattle.ibft_table_laws.proofs.LayoutLaws.{entry-fits}
 use Rattle.ibft_build_rules.specs.RecordRange.{entry_given, length_given, start_given}

@@ -7,8 +7,8 @@
 --     behind-is                         a gap and the structure behind it
 --     stretch-fits                      there is room for it
 --     stretch-on, stretch-off           the same, where it is present, and where it is absent
---     structures-next, structures-end   one more of them, and where they end
---     Passed, passed-next               what a loop over some of the turns leaves, and one turn more
+--     Written, structures-next          what is written after some turns, and after one more
+--     structures-end                    where these end
 -- Assumes nothing.
 use mathlib.Core.Path.{◌≡◌, refl, sym, ap, ap₂, ◌∙◌}
 use mathlib.Core.Bool.{Bool, true, false, cond}
@@ -170,14 +170,9 @@ module _ (r ends : List ℕ) (j k : ℕ) (slot : k ≡ built_slot j) where
       ∙ end_more r j (get_or ends j 0) (align8 (get_or ends j 0) + (kind_of (built_slot j)).length) (ends_at r ends are j (omega arith))
       (sym (ap (λ (b : Bool). cond b (align8 (get_or ends j 0) + (kind_of (built_slot j)).length) (get_or ends j 0)) here))
 
-module _ (r ends wanted offsets : List ℕ) where
-  -- the loops over the turns from `low` to `high`: t₀ is the room and j₀ the turn that a loop starts with, u the room before
-  -- turn j
-  abbrev pub Passed : ℕ → ℕ → List ℕ → ℕ → List ℕ → ℕ → Type 0
-  Passed low high t₀ j₀ u j =
-      (low ≤ j) × (j ≤ high) × (length u ≡ length t₀)
-      × ((t : List ℕ) → t₀ ≡ write t (control_end (extras_given r)) (gather (stretch_with r ends wanted offsets) 0 j₀)
-      → u ≡ write t (control_end (extras_given r)) (gather (stretch_with r ends wanted offsets) 0 j))
+-- u is the room t with the first j structures of the build's order written
+abbrev pub Written : List ℕ → List ℕ → List ℕ → List ℕ → List ℕ → List ℕ → ℕ → Type 0
+Written r ends wanted offsets t u j = u ≡ write t (control_end (extras_given r)) (gather (stretch_with r ends wanted offsets) 0 j)
 
 module _ (r ends wanted offsets : List ℕ) (are : ends ≡ structure_ends r) (whole : Whole r) where
   stretch-length : (j : ℕ) → j < slot_count → end_given r (suc j) ≡ end_given r j + length (stretch_with r ends wanted offsets j)
@@ -212,17 +207,7 @@ module _ (r ends wanted offsets : List ℕ) (are : ends ≡ structure_ends r) (w
         zero-plus,
       )
 
-  pub structures-next : (t u w : List ℕ) (j : ℕ) → j < slot_count → u ≡ write t (control_end (extras_given r)) (gather (stretch_with r ends wanted offsets) 0 j)
-      → w ≡ write u (end_given r j) (stretch_with r ends wanted offsets j) → w
-      ≡ write t (control_end (extras_given r)) (gather (stretch_with r ends wanted offsets) 0 (j + 1))
+  pub structures-next : (t u w : List ℕ) (j : ℕ) → j < slot_count → Written r ends wanted offsets t u j
+      → w ≡ write u (end_given r j) (stretch_with r ends wanted offsets j) → Written r ends wanted offsets t w (j + 1)
   structures-next t u w j h e g =
       gather-next (stretch_with r ends wanted offsets) 0 (control_end (extras_given r)) t j j (end_given r j) u w e (omega arith) (structures-end j (omega arith)) g
-
-  pub passed-next : (low high : ℕ) (t₀ : List ℕ) (j₀ : ℕ) (u w : List ℕ) (j : ℕ) → j < high → high ≤ slot_count → Passed r ends wanted offsets low high t₀ j₀ u j
-      → w ≡ write u (end_given r j) (stretch_with r ends wanted offsets j) → Passed r ends wanted offsets low high t₀ j₀ w (j + 1)
-  passed-next low high t₀ j₀ u w j h most l g = (
-    omega (arith, l.0),
-    omega arith,
-    length-written u w (end_given r j) (stretch_with r ends wanted offsets j) g ∙ l.2,
-    λ t e. structures-next t u w j (omega arith) (l.3 t e) g,
-  )

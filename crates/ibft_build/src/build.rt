@@ -2,15 +2,14 @@
 // words, what it would take in the heap, what it takes there), which settles Length, then want of room; only then is the first
 // byte written.
 ghost use Rattle.std.specs.Prelude.{◌≡◌};
-ghost use Rattle.table_header.specs.declared.verdict.Verdict.TheVariants.{Accepted};
+ghost use Rattle.table_header.specs.Verdict.{Accepted};
 ghost use Rattle.ibft_build_rules.specs.Refusals.{contents_verdict};
 ghost use Rattle.ibft_build_rules.specs.Promises.{Promise};
 ghost use Rattle.ibft_build.specs.Planning.{Ends};
 
-use crate::offsets::{entry_offsets, sum_below};
+use crate::plan::{Entries, Heap, Plan};
 use crate::starts::structure_ends;
-use crate::stored::{entry_fields, heap_sizes, wanted_sizes};
-use crate::write_table::put_table;
+use crate::stored::{entry_fields, wanted_sizes};
 use ibft_build_rules::Built;
 use ibft_layout::layout::SLOT_COUNT;
 use ibft_record::record::entry_limit;
@@ -22,13 +21,24 @@ fn build_contents(range: &[u8], strings: &[u8], room: &mut [u8]) -> Built
     requires { contents_verdict range.now strings.now ≡ Accepted }
     ensures { Ends range.now strings.now room.old result room.new }
 {
-    let ends = structure_ends(range);
-    let heap = ends[SLOT_COUNT as usize];
     let limit = entry_limit(range);
     let fields = entry_fields(range, limit);
     let wanted = wanted_sizes(range, limit);
-    let sizes = heap_sizes(range, strings, &wanted, &fields, limit);
-    let length = heap as u32 + sum_below(&sizes, limit);
+    let entries = Entries {
+        range,
+        strings,
+        limit,
+        fields: &fields,
+        wanted: &wanted,
+    };
+    let ends = structure_ends(range);
+    let sizes = entries.heap_sizes();
+    let heap = Heap {
+        entries,
+        start: ends[SLOT_COUNT as usize],
+        sizes: &sizes,
+    };
+    let length = heap.end();
     if room.len() < length as usize {
         return Built {
             refusal: Refusal {
@@ -39,10 +49,15 @@ fn build_contents(range: &[u8], strings: &[u8], room: &mut [u8]) -> Built
             length: 0,
         };
     }
-    let offsets = entry_offsets(range, strings, &wanted, &fields, &sizes, limit, heap);
-    put_table(
-        room, range, strings, &ends, &fields, &wanted, &sizes, &offsets, length,
-    );
+    let offsets = heap.entry_offsets();
+    let plan = Plan {
+        entries,
+        ends: &ends,
+        sizes: &sizes,
+        offsets: &offsets,
+        length,
+    };
+    plan.put_table(room);
     Built {
         refusal: ACCEPTED,
         length,
@@ -54,7 +69,7 @@ pub fn build(range: &[u8], strings: &[u8], room: &mut [u8]) -> Built
     ensures { Promise range.now strings.now room.old result room.new }
 {
     match contents_verdict(range, strings) {
-        Verdict::Accepted => build_contents(range, strings, room),
-        Verdict::Refused(refusal) => Built { refusal, length: 0 },
+        Ok(()) => build_contents(range, strings, room),
+        Err(refusal) => Built { refusal, length: 0 },
     }
 }

@@ -3,6 +3,7 @@
 
 pub mod build;
 mod offsets;
+mod plan;
 mod starts;
 mod stored;
 mod write_header;

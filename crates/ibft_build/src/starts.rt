@@ -7,6 +7,7 @@ ghost use Rattle.ibft_build_rules.specs.Plan.{turn_of};
 ghost use Rattle.ibft_record.specs.Limits.{extras_given};
 ghost use Rattle.ibft_build.specs.Planning.{structure_ends, structure_start};
 
+use crate::plan::Plan;
 use ibft_build_rules::range::structure_given;
 use ibft_layout::control::Control;
 use ibft_layout::layout::{EXTRA_MOST, SLOT_COUNT, kind_of};
@@ -20,6 +21,7 @@ pub(crate) const TARGET_TURN: u8 = EXTRA_NIC_TURN + EXTRA_MOST;
 pub(crate) const EXTRA_TARGET_TURN: u8 = TARGET_TURN + 2;
 
 // The slot that is j-th in the build's order: initiator, all NICs by Index, all targets by Index; past the last, slot 0.
+#[tactic(auto, unfolding(ibft_layout::specs::Layout::built_slot))]
 pub(crate) fn built_slot(j: u8) -> u8
     ensures { (result ≡ built_slot j) × (result < slot_count) }
 {
@@ -45,6 +47,7 @@ pub(crate) fn built_slot(j: u8) -> u8
 }
 
 // Slot k's turn in the build's order; past the last slot, none of them.
+#[tactic(auto, unfolding(ibft_build_rules::specs::Plan::turn_of, octets::specs::Counting::first, ibft_layout::specs::Layout::built_slot))]
 fn turn_of(k: u8) -> u8
     ensures { (result ≡ turn_of k) × (result ≤ slot_count) }
 {
@@ -115,37 +118,29 @@ pub(crate) fn structure_ends(range: &[u8]) -> [u16; SLOT_COUNT as usize + 1]
 {
     let start = control_end(range);
     let mut ends = [start; SLOT_COUNT as usize + 1];
-    let mut j: u8 = 0;
-    while j < EXTRA_NIC_TURN {
-        let end = ends[j as usize];
-        ends[j as usize + 1] = end_after(range, end, j);
-        j += 1;
+    for j in 0..EXTRA_NIC_TURN {
+        ends[j as usize + 1] = end_after(range, ends[j as usize], j);
     }
-    while j < TARGET_TURN {
-        let end = ends[j as usize];
-        ends[j as usize + 1] = end_after_extra(range, end, j);
-        j += 1;
+    for j in EXTRA_NIC_TURN..TARGET_TURN {
+        ends[j as usize + 1] = end_after_extra(range, ends[j as usize], j);
     }
-    while j < EXTRA_TARGET_TURN {
-        let end = ends[j as usize];
-        ends[j as usize + 1] = end_after(range, end, j);
-        j += 1;
+    for j in TARGET_TURN..EXTRA_TARGET_TURN {
+        ends[j as usize + 1] = end_after(range, ends[j as usize], j);
     }
-    while j < SLOT_COUNT {
-        let end = ends[j as usize];
-        ends[j as usize + 1] = end_after_extra(range, end, j);
-        j += 1;
+    for j in EXTRA_TARGET_TURN..SLOT_COUNT {
+        ends[j as usize + 1] = end_after_extra(range, ends[j as usize], j);
     }
     ends
 }
 
-// Where slot k's structure starts; 0 where it is absent.
-pub(crate) fn structure_start(range: &[u8], ends: &[u16], k: u8) -> u16
-    requires { ends.now ≡ structure_ends range.now }
-    ensures { result ≡ structure_start range.now k }
-{
-    if structure_given(range, k) {
-        return aligned(ends[turn_of(k) as usize]);
+impl<'a> Plan<'a> {
+    // Where slot k's structure starts; 0 where it is absent.
+    pub(crate) fn structure_start(&self, k: u8) -> u16
+        ensures { result ≡ structure_start self.now.entries.range.now k }
+    {
+        if structure_given(self.entries.range, k) {
+            return aligned(self.ends[turn_of(k) as usize]);
+        }
+        0
     }
-    0
 }

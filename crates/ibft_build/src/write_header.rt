@@ -4,10 +4,10 @@ ghost use Rattle.octets.specs.Counting.{gather};
 ghost use Rattle.octets.specs.Octets.{write};
 ghost use Rattle.ibft_layout.specs.Layout.{slot_count, most_words};
 ghost use Rattle.ibft_record.specs.Limits.{extras_given};
-ghost use Rattle.ibft_build.specs.Planning.{Whole, structure_ends};
+ghost use Rattle.ibft_build.specs.Planning.{Whole};
 ghost use Rattle.ibft_build.specs.Writing.{header_with, control_front, start_word, control_with};
 
-use crate::starts::structure_start;
+use crate::plan::Plan;
 use ibft_build_rules::range::{CONTROL_FLAGS_AT, OEM_AT};
 use ibft_layout::control::Control;
 use ibft_layout::header::Header;
@@ -60,33 +60,34 @@ fn control_front(extras: u8, flags: u8) -> [u8; 8]
     ]
 }
 
-// Writes the starts of the structures of `count` slots, from slot `first` on, behind one another from `at` on.
-fn put_start_words(control: &mut [u8], at: u16, range: &[u8], ends: &[u16], first: u8, count: u8)
-    requires { (at ≤ 42) × (ends.now ≡ structure_ends range.now) × (first + count ≤ slot_count) }
-    ensures { control.new ≡ write control.old at (gather (start_word range.now) first count) }
-{
-    let mut i: u8 = 0;
-    while i < count {
-        put_u16(
-            control,
-            at as usize + 2 * i as usize,
-            structure_start(range, ends, first + i),
-        );
-        i += 1;
+impl<'a> Plan<'a> {
+    // Writes the starts of the structures of `count` slots, from slot `first` on, behind one another from `at` on.
+    fn put_start_words(&self, control: &mut [u8], at: u16, first: u8, count: u8)
+        requires { (at ≤ 42) × (first + count ≤ slot_count) }
+        ensures { control.new ≡ write control.old at (gather (start_word self.now.entries.range.now) first count) }
+    {
+        for i in 0..count {
+            put_u16(
+                control,
+                at as usize + 2 * i as usize,
+                self.structure_start(first + i),
+            );
+        }
     }
-}
 
-// Writes Control: the words of the named slots, then those of the extras in slot order.
-pub(crate) fn put_control(control: &mut [u8], range: &[u8], ends: &[u16])
-    requires { (length control.old ≡ 18 + 2 * extras_given range.now) × (ends.now ≡ structure_ends range.now) }
-    ensures { control.new ≡ control_with range.now }
-{
-    let nics = extra_nics(range);
-    let targets = extra_targets(range);
-    let front = control_front(nics + targets, byte_at(range, CONTROL_FLAGS_AT as usize));
-    put_bytes(control, 0, &front);
-    put_start_words(control, WORDS_AT, range, ends, 0, NAMED_COUNT);
-    put_start_words(control, EXTRA_WORDS_AT, range, ends, EXTRA_NICS, nics);
-    let behind = EXTRA_WORDS_AT + 2 * nics as u16;
-    put_start_words(control, behind, range, ends, EXTRA_TARGETS, targets);
+    // Writes Control: the words of the named slots, then those of the extras in slot order.
+    pub(crate) fn put_control(&self, control: &mut [u8])
+        requires { length control.old ≡ 18 + 2 * extras_given self.now.entries.range.now }
+        ensures { control.new ≡ control_with self.now.entries.range.now }
+    {
+        let range = self.entries.range;
+        let nics = extra_nics(range);
+        let targets = extra_targets(range);
+        let front = control_front(nics + targets, byte_at(range, CONTROL_FLAGS_AT as usize));
+        put_bytes(control, 0, &front);
+        self.put_start_words(control, WORDS_AT, 0, NAMED_COUNT);
+        self.put_start_words(control, EXTRA_WORDS_AT, EXTRA_NICS, nics);
+        let behind = EXTRA_WORDS_AT + 2 * nics as u16;
+        self.put_start_words(control, behind, EXTRA_TARGETS, targets);
+    }
 }

@@ -4,10 +4,10 @@
 --     heap_size-most     entries take at most their longest and a zero each
 --     heap-start-bound, heap-size-bound, length-bound     the numbers: 1,454, 12,256, 13,710
 -- Assumes nothing.
+use Rattle.std.specs.Prelude.{None, Some}
 use mathlib.Core.Path.{◌≡◌, refl}
 use mathlib.Core.Bool.{Bool, true, false, cond}
 use mathlib.Core.List.{List}
-use mathlib.Core.Option.{none, some}
 use Prim.Native.Nat.{ℕ, zero, suc, ◌+◌, ◌≤◌, ◌<◌}
 use native.Mathlib.Omega.{arith}
 use lib.ListN.{length}
@@ -62,15 +62,15 @@ heap-start-bound c =
 -- ---- entries
 
 pub heap_size-most : (n : ℕ) (shares : ℕ → Bool) (e : ℕ → Entry) (longest : ℕ → ℕ)
-    → ((i : ℕ) (a : List ℕ) → i < n → e i ≡ some a → length a ≤ longest i) → heap_size n shares e ≤ sum_to n (λ (i : ℕ). longest i + 1)
+    → ((i : ℕ) (a : List ℕ) → i < n → e i ≡ Some a → length a ≤ longest i) → heap_size n shares e ≤ sum_to n (λ (i : ℕ). longest i + 1)
 unfolding heap_size of_stored
 heap_size-most n shares e longest short =
     sum_to-le n (λ (i : ℕ). size n shares e i) (λ (i : ℕ). longest i + 1) (λ i h. go i h (e i) refl (stored n shares e i))
   where
     go : (i : ℕ) → i < n → (o : Entry) → e i ≡ o → (b : Bool) → of_stored o b (λ (a : List ℕ). length a + 1) ≤ longest i + 1
-    go i h none is b = omega arith
-    go i h (some a) is true = omega (arith, short i a h is)
-    go i h (some a) is false = omega arith
+    go i h None is b = omega arith
+    go i h (Some a) is true = omega (arith, short i a h is)
+    go i h (Some a) is false = omega arith
 
 all-longest : sum_to entry_count (λ (n : ℕ). (string_of n).longest + 1) ≡ 12256
 unfolding computing

@@ -8,10 +8,10 @@
 --     size_back, offset-back, holds-back                       an entry's words
 --     heap-back, entry-stands, entry-back                      the heap's start, and the strings in it
 -- Assumes nothing.
+use Rattle.std.specs.Prelude.{None, Some}
 use mathlib.Core.Path.{◌≡◌, refl, sym, ap, ap₂, ◌∙◌, subst}
 use mathlib.Core.Bool.{Bool, true, false, ◌&&◌, ◌||◌, or-true}
 use mathlib.Core.List.{List, [], ◌∷◌, ◌++◌}
-use mathlib.Core.Option.{none, some}
 use Prim.Native.Nat.{ℕ, zero, suc, ◌+◌, ◌*◌, ◌-◌, ◌%◌, ◌≤◌, ◌<◌}
 use native.Mathlib.Nat.{add-zero, zero-add, add_assoc}
 use native.Mathlib.Omega.{arith}
@@ -165,7 +165,7 @@ module _ (c : Content) (good : Good c) (t : List ℕ) (front : Begins c t) where
 
   -- ---- where each structure's bytes stand
 
-  built-back : (k : ℕ) (b : List ℕ) → k < slot_count → c.structure k ≡ some b → Lies t (start_built c k) (structure_bytes c k b)
+  built-back : (k : ℕ) (b : List ℕ) → k < slot_count → c.structure k ≡ Some b → Lies t (start_built c k) (structure_bytes c k b)
   built-back k b h is =
       let on = some-present (c.structure k) b is in
       let size = (good.body k b h is).body-size in
@@ -173,7 +173,7 @@ module _ (c : Content) (good : Good c) (t : List ℕ) (front : Begins c t) where
       (omega (arith, structure-length c k b h size, start-inside c k on h, heap-start-length c)) (structure-lies c good k b h is)
 
   built-byte : (i k : ℕ) → i < 6 → k < slot_count → is_present (c.structure k) ≡ true
-      → (b : List ℕ) × (c.structure k ≡ some b) × (byte t (start_built c k + i) ≡ byte (structure_bytes c k b) i)
+      → (b : List ℕ) × (c.structure k ≡ Some b) × (byte t (start_built c k + i) ≡ byte (structure_bytes c k b) i)
   built-byte i k l h on =
       let w = present-some (c.structure k) on in
       let fits = slot-fits k h in
@@ -263,7 +263,7 @@ module _ (c : Content) (good : Good c) (t : List ℕ) (front : Begins c t) where
 
   -- ---- a structure
 
-  module _ (k : ℕ) (h : k < slot_count) (b : List ℕ) (is : c.structure k ≡ some b) where
+  module _ (k : ℕ) (h : k < slot_count) (b : List ℕ) (is : c.structure k ≡ Some b) where
     on : is_present (c.structure k) ≡ true
     on = some-present (c.structure k) b is
 
@@ -368,15 +368,15 @@ module _ (c : Content) (good : Good c) (t : List ℕ) (front : Begins c t) where
 
       go : (b : Bool) → is_present (c.structure (owner_of n)) ≡ b → (o : Entry) → c.entry n ≡ o
           → (present t (owner_of n) && (differs (size_of t n) 0 || differs (offset_of t n) 0)) ≡ is_present (c.entry n)
-      go false off none e = ap (λ (p : Bool). p && (differs (size_of t n) 0 || differs (offset_of t n) 0)) (owner-back ∙ off) ∙ sym (none-absent (c.entry n) e)
-      go false off (some a) e = clash (good.owned n a h e) off
-      go true own none e =
+      go false off None e = ap (λ (p : Bool). p && (differs (size_of t n) 0 || differs (offset_of t n) 0)) (owner-back ∙ off) ∙ sym (none-absent (c.entry n) e)
+      go false off (Some a) e = clash (good.owned n a h e) off
+      go true own None e =
           ap (λ (p : Bool). p && (differs (size_of t n) 0 || differs (offset_of t n) 0)) (owner-back ∙ own)
           ∙ ap₂ (λ (p q : Bool). p || q)
           (same_differs (size_of t n) 0 (size_back n h own ∙ ap len e))
           (same_differs (offset_of t n) 0 (offset-back n h own ∙ offset-none c n e))
           ∙ sym (none-absent (c.entry n) e)
-      go true own (some a) e =
+      go true own (Some a) e =
           ap (λ (p : Bool). p && (differs (size_of t n) 0 || differs (offset_of t n) 0)) (owner-back ∙ own)
           ∙ ap (λ (p : Bool). differs (size_of t n) 0 || p)
           (unlike-differs (offset_of t n) 0 (λ z. omega (arith, offset-back n h own, offset-low c n a e, heap-start-least c)))
@@ -484,7 +484,7 @@ module _ (c : Content) (good : Good c) (t : List ℕ) (front : Begins c t) where
 
   -- ---- the strings
 
-  module _ (n : ℕ) (h : n < entry_count) (a : List ℕ) (is : c.entry n ≡ some a) where
+  module _ (n : ℕ) (h : n < entry_count) (a : List ℕ) (is : c.entry n ≡ Some a) where
     own : is_present (c.structure (owner_of n)) ≡ true
     own = good.owned n a h is
 

@@ -16,7 +16,7 @@ use Rattle.ibft_table.specs.Check.{check_of}
 use Rattle.ibft_table.specs.Record.{Content, listed, record_of}
 use Rattle.ibft_table.specs.Order.{keeps_order}
 use Rattle.ibft_table.specs.Secrets.{secrets_apart}
-use Rattle.table_header.specs.declared.verdict.Verdict.TheVariants.{Accepted}
+use Rattle.table_header.specs.Verdict.{Accepted}
 use Rattle.octets.proofs.TestLaws.{or-both}
 use Rattle.ibft_table_laws.proofs.LeastLaws.{least-record}
 use Rattle.ibft_build_rules.specs.Refusals.{has_zero}

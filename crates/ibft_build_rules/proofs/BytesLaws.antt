@@ -7,9 +7,9 @@
 --     body-lies, words-lie                                                and in a structure
 --     table-sums, table-stands                                            the sum is 0, the checksum byte stands at 9
 -- Assumes nothing.
+use Rattle.std.specs.Prelude.{Option, None, Some}
 use mathlib.Core.Path.{◌≡◌, refl, sym, ap, ◌∙◌, subst}
 use mathlib.Core.List.{List, [], ◌∷◌, ◌++◌, append_assoc}
-use mathlib.Core.Option.{Option, none, some}
 use Prim.Native.Nat.{ℕ, suc, ◌+◌, ◌*◌, ◌-◌, ◌%◌, ◌≤◌, ◌<◌}
 use native.Mathlib.Omega.{arith}
 use lib.ListN.{length, length-append, length-set}
@@ -188,8 +188,8 @@ module _ (c : Content) (good : Good c) where
       gap = align8 (end_built c j) - end_built c j
 
       go : (o : Option (List ℕ)) → c.structure (built_slot j) ≡ o → end_built c (suc j) ≡ end_built c j + length (stretch_as c j o)
-      go none e = omega (arith, end-absent c j (none-absent (c.structure (built_slot j)) e))
-      go (some b) e =
+      go None e = omega (arith, end-absent c j (none-absent (c.structure (built_slot j)) e))
+      go (Some b) e =
           let slot = (turn-fits j h).slot in
           omega (
             arith,
@@ -261,7 +261,7 @@ module _ (c : Content) (good : Good c) where
       (lies-last structures heap (length structures) refl)))
 
   -- the structure of turn j stands behind its gap
-  turn-lies : (j : ℕ) (b : List ℕ) → j < slot_count → c.structure (built_slot j) ≡ some b
+  turn-lies : (j : ℕ) (b : List ℕ) → j < slot_count → c.structure (built_slot j) ≡ Some b
       → Lies (bare_table c) (align8 (end_built c j)) (structure_bytes c (built_slot j) b)
   unfolding stretch stretch_as
   turn-lies j b h e =
@@ -275,7 +275,7 @@ module _ (c : Content) (good : Good c) where
       (rw here at (stretch-lies j h))
       (lies-last (zeros gap) bytes gap (length-zeros gap)))
 
-  pub structure-lies : (k : ℕ) (b : List ℕ) → k < slot_count → c.structure k ≡ some b → Lies (bare_table c) (start_built c k) (structure_bytes c k b)
+  pub structure-lies : (k : ℕ) (b : List ℕ) → k < slot_count → c.structure k ≡ Some b → Lies (bare_table c) (start_built c k) (structure_bytes c k b)
   structure-lies k b h e =
       let f = turn-fits k h in
       let same = f.slot-of-turn in

@@ -4,10 +4,10 @@
 --     accepted-calls     of an accepted table and its own record
 --     serves-calls       so of any table that serves a record
 -- Assumes nothing.
+use Rattle.std.specs.Prelude.{Some}
 use mathlib.Core.Path.{◌≡◌, refl, sym, ap, ◌∙◌, subst}
 use mathlib.Core.Logic.{◌⊎◌, inl, inr}
 use mathlib.Core.Bool.{Bool, true, false, cond, not}
-use mathlib.Core.Option.{some}
 use mathlib.Core.List.{List}
 use Prim.Native.Nat.{ℕ, ◌+◌, ◌*◌, ◌≤◌, ◌<◌}
 use native.Mathlib.Decide.{dec_lt}
@@ -20,7 +20,7 @@ use Rattle.octets.proofs.CountingLaws.{each_holds}
 use Rattle.octets.proofs.CountLaws.{count_same}
 use Rattle.ibft_layout.specs.Layout.{Kind, initiator, nic, target, slot_count, entry_count, named_count, extra_most, extra_nics, kind_of, nic_slot}
 use Rattle.ibft_layout.specs.Layout.{target_slot, string_of, named_entries, first_entry, closed, entry_number}
-use Rattle.table_header.specs.Verdict.{refusal_of}
+use Rattle.table_header.specs.Verdict.{refusal_of, Verdict, Accepted}
 use Rattle.ibft_table.specs.Table.{starts_of, nics_in, present}
 use Rattle.ibft_table.specs.Check.{check_of}
 use Rattle.ibft_table.specs.Record.{Record, shown_if, record_of}
@@ -28,8 +28,6 @@ use Rattle.ibft_layout.specs.Shapes.{string_words_at}
 use Rattle.ibft_readings.specs.Readings.{initiator_in, nic_in, target_in, slot_called, entry_called, structure_from, structure_got, structure_of}
 use Rattle.ibft_readings.specs.Readings.{initiator_of, nic_of, target_of, entry_from, entry_got, entry_of, view_of}
 use Rattle.ibft_readings.specs.declared.structure.StructureReading.{StructureReading}
-use Rattle.table_header.specs.declared.verdict.Verdict.{Verdict}
-use Rattle.table_header.specs.declared.verdict.Verdict.TheVariants.{Accepted}
 use Rattle.ibft_readings.specs.Computing.{computing}
 use Rattle.ibft_layout.proofs.LayoutLaws.{nic-past, target_past}
 use Rattle.ibft_table_laws.proofs.LayoutLaws.{slot-entry, slot-entry-owner, slot-entry-place}
@@ -125,7 +123,7 @@ module _ (t : List ℕ) (ok : check_of t ≡ Accepted) where
   -- ---- structures, by their slot and by number
 
   module _ {R : Type 0} (k : ℕ) (h : k < slot_count) (from : List ℕ → R) (shows : R) where
-    slot-given : ((body : List ℕ) → structure_held (record_of t) k ≡ some body → shows ≡ from body)
+    slot-given : ((body : List ℕ) → structure_held (record_of t) k ≡ Some body → shows ≡ from body)
         → Gives (structure_held (record_of t) k) from (refusal_of (verdict_at t k)) shows
     unfolding refusal_of
     slot-given same = record {
@@ -135,7 +133,7 @@ module _ (t : List ℕ) (ok : check_of t ≡ Accepted) where
     }
 
   module _ {R : Type 0} (number : ℕ) (h : number < slot_count) (from : List ℕ → R) (shows : R) where
-    structure-given : ((body : List ℕ) → structure_held (record_of t) (slot_called (starts_of t) number) ≡ some body → shows ≡ from body)
+    structure-given : ((body : List ℕ) → structure_held (record_of t) (slot_called (starts_of t) number) ≡ Some body → shows ≡ from body)
         → Gives (structure_held (record_of t) (slot_called (starts_of t) number)) from (structure_of t number).refusal shows
     unfolding structure_of structure_got structure_from
     structure-given same =

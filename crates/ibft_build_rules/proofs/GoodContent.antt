@@ -1,9 +1,9 @@
 -- Contents that a build does not refuse: what the refusals leave, as facts by slot and by entry. It is what the laws of the
 -- built table ask for, and what the contents of an accepted record range have. Assumes nothing.
+use Rattle.std.specs.Prelude.{Some}
 use mathlib.Core.Path.{◌≡◌}
 use mathlib.Core.Bool.{true, false, not, ◌&&◌}
 use mathlib.Core.List.{List}
-use mathlib.Core.Option.{some}
 use Prim.Native.Nat.{ℕ, ◌+◌, ◌-◌, ◌≤◌, ◌<◌}
 use lib.ListN.{length}
 use lib.Dec.{ltb}
@@ -52,7 +52,7 @@ pub record Good (c : Content) : Type 0 where
   pub oem-table-id : length c.oem_table_id ≡ 8
   pub oem-table-id-padded : padded c.oem_table_id ≡ true
   pub control-flags : reserved_set c.flags control ≡ false
-  pub body : (k : ℕ) (b : List ℕ) → k < slot_count → c.structure k ≡ some b → GoodBody k b
-  pub entry : (n : ℕ) (a : List ℕ) → n < entry_count → c.entry n ≡ some a → GoodEntry n a
+  pub body : (k : ℕ) (b : List ℕ) → k < slot_count → c.structure k ≡ Some b → GoodBody k b
+  pub entry : (n : ℕ) (a : List ℕ) → n < entry_count → c.entry n ≡ Some a → GoodEntry n a
   -- an entry is present only where its structure is
-  pub owned : (n : ℕ) (a : List ℕ) → n < entry_count → c.entry n ≡ some a → is_present (c.structure (owner_of n)) ≡ true
+  pub owned : (n : ℕ) (a : List ℕ) → n < entry_count → c.entry n ≡ Some a → is_present (c.structure (owner_of n)) ≡ true

@@ -21,11 +21,10 @@ use Rattle.octets.proofs.ReadLaws.{byte_past, part_length, part_at}
 use Rattle.octets.proofs.TestLaws.{and_both, and-other, and_no, differs-no}
 use Rattle.ibft_layout.specs.Layout.{Kind, nic, target, kind_of, index_of, chap_at, slot_count, entry_count, named_count, extra_most, extra_nics}
 use Rattle.ibft_layout.specs.Layout.{extra_targets, least_index, owner_of, string_of}
-use Rattle.table_header.specs.Verdict.{first_of}
+use Rattle.table_header.specs.Verdict.{first_of, Accepted}
 use Rattle.table_header.specs.Header.{padded}
 use Rattle.ibft_table.specs.Check.{reserved_set}
 use Rattle.ibft_table.specs.Record.{shown_if, body_size}
-use Rattle.table_header.specs.declared.verdict.Verdict.TheVariants.{Accepted}
 use Rattle.table_header.proofs.VerdictLaws.{passes, append-passes, gather-passes}
 use Rattle.ibft_table_laws.proofs.LayoutLaws.{slot-fits, nic-slot, target-slot}
 use Rattle.ibft_table_laws.proofs.RecordLaws.{shown-some}

@@ -4,6 +4,7 @@
 --                                            m + 1
 --     contents-numbered, contents-placed     the contents' tests
 -- Assumes nothing.
+use Rattle.std.specs.Prelude.{Ok, Err}
 use mathlib.Core.Path.{◌≡◌, refl, sym, ap, ◌∙◌}
 use mathlib.Core.List.{List, ◌∷◌, ◌++◌}
 use Prim.Native.Nat.{ℕ, zero, suc, ◌+◌, ◌≤◌, ◌<◌}
@@ -12,10 +13,8 @@ use native.Mathlib.Omega.{arith}
 use borrow.Author.Tests.{leb-false}
 use Rattle.octets.specs.Counting.{gather}
 use Rattle.ibft_layout.specs.Layout.{slot_count, entry_count, extra_most, extra_nics, named_entries, slot_number, entry_number}
-use Rattle.table_header.specs.Verdict.{Test, first_of}
+use Rattle.table_header.specs.Verdict.{Test, first_of, Verdict, Accepted, Refused}
 use Rattle.table_header.specs.declared.verdict.Refusal.{Refusal}
-use Rattle.table_header.specs.declared.verdict.Verdict.{Verdict}
-use Rattle.table_header.specs.declared.verdict.Verdict.TheVariants.{Accepted, Refused}
 use Rattle.ibft_table_laws.proofs.NumberingLaws.{closed-le}
 use Rattle.table_header.proofs.VerdictLaws.{Every, every-none, every-next, every_append, every-gather, every-if, every_first, passes}
 use Rattle.table_header.proofs.VerdictLaws.{append-accepted, append-refused, accepted-not-refused, accept-none}
@@ -40,10 +39,10 @@ gather-early {P} f m (suc n) k l stop each e is =
     go (λ h rest. gather-early f m n (suc k) h (λ x. stop (omega arith)) each e rest) (first_of (f k)) refl
   where
     go : (k < m → first_of (gather f (suc k) n) ≡ Refused e → P e) → (v : Verdict) → first_of (f k) ≡ v → P e
-    go later (Refused d) p =
+    go later (Err d) p =
         let same : Refused d ≡ Refused e = sym (append-refused (f k) (gather f (suc k) n) d p) ∙ is in
         every_first (each k l) e (p ∙ same)
-    go later Accepted p =
+    go later (Ok u) p =
         elim (dec_lt k m) [
           | yes h ↦ later h (sym (append-accepted (f k) (gather f (suc k) n) p) ∙ is)
           | no h ↦
@@ -78,10 +77,10 @@ module _ (r s : List ℕ) where
   extras-told e is = go (first_of (gather (index_tests r nic_image extra_nics) 0 (nics_given r))) refl
     where
       go : (v : Verdict) → first_of (gather (index_tests r nic_image extra_nics) 0 (nics_given r)) ≡ v → (0 < e.number) × (e.place < 256)
-      go (Refused d) p =
+      go (Err d) p =
           indices-told nic_image extra_nics (nics_given r) (omega arith) e
           (p ∙ sym (append-refused (gather (index_tests r nic_image extra_nics) 0 (nics_given r)) _ d p) ∙ is)
-      go Accepted p =
+      go (Ok u) p =
           indices-told (target_image r) (extra_nics + nics_given r) (targets_given r) (omega (arith, extras-most r nic_image extra_nics (nics_given r) p)) e
           (sym (append-accepted (gather (index_tests r nic_image extra_nics) 0 (nics_given r)) _ p) ∙ is)
 
@@ -122,12 +121,12 @@ module _ (r s : List ℕ) where
       rest = flags_tests r ++ (gather (image_tests r) 0 slot_count ++ gather (string_tests r s) 0 entry_count)
 
       back : first_of (extras_tests r ++ rest) ≡ Refused e → (v : Verdict) → first_of (extras_tests r) ≡ v → (0 < e.number) × (e.place < 256)
-      back f (Refused d) p = extras-told e (p ∙ sym (append-refused (extras_tests r) rest d p) ∙ f)
-      back f Accepted p = every_first rest-told e (sym (append-accepted (extras_tests r) rest p) ∙ f)
+      back f (Err d) p = extras-told e (p ∙ sym (append-refused (extras_tests r) rest d p) ∙ f)
+      back f (Ok u) p = every_first rest-told e (sym (append-accepted (extras_tests r) rest p) ∙ f)
 
       front : (v : Verdict) → first_of (range_tests r) ≡ v → (0 < e.number) × (e.place < 256)
-      front (Refused d) p = every_first range-told e (p ∙ sym (append-refused (range_tests r) (extras_tests r ++ rest) d p) ∙ is)
-      front Accepted p = back (sym (append-accepted (range_tests r) (extras_tests r ++ rest) p) ∙ is) (first_of (extras_tests r)) refl
+      front (Err d) p = every_first range-told e (p ∙ sym (append-refused (range_tests r) (extras_tests r ++ rest) d p) ∙ is)
+      front (Ok u) p = back (sym (append-accepted (range_tests r) (extras_tests r ++ rest) p) ∙ is) (first_of (extras_tests r)) refl
 
   pub contents-numbered : Numbered (contents_tests r s)
   contents-numbered e is z = omega (arith, (contents-told e is).0)

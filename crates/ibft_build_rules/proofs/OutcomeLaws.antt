@@ -3,6 +3,7 @@
 --     answer-bound     whatever the outcome, no Length above 13,710 is returned
 --     answer-placed    nor a place above 255
 -- Assumes nothing.
+use Rattle.std.specs.Prelude.{Ok, Err}
 use mathlib.Core.Path.{◌≡◌, refl, ap, ◌∙◌}
 use mathlib.Core.Logic.{◌⊎◌, inl, inr, ⊎_elim}
 use mathlib.Core.Bool.{Bool, true, false}
@@ -11,10 +12,8 @@ use Prim.Native.Nat.{ℕ, ◌≤◌, ◌<◌}
 use native.Mathlib.Omega.{arith}
 use borrow.Author.Tests.{ltb-true, ltb-false}
 use lib.Dec.{ltb}
-use Rattle.table_header.specs.Verdict.{refusal, first_of, refusal_of}
+use Rattle.table_header.specs.Verdict.{refusal, first_of, refusal_of, Verdict, Accepted, Refused}
 use Rattle.table_header.specs.declared.verdict.Refusal.{Refusal}
-use Rattle.table_header.specs.declared.verdict.Verdict.{Verdict}
-use Rattle.table_header.specs.declared.verdict.Verdict.TheVariants.{Accepted, Refused}
 use Rattle.table_header.proofs.VerdictLaws.{accept-none, accept-cons, fail-cons, append-accepted, append-refused}
 use Rattle.ibft_build_rules.specs.RecordRange.{content_given}
 use Rattle.ibft_build_rules.specs.Refusals.{contents_tests, contents_verdict}
@@ -58,8 +57,8 @@ module _ (r s : List ℕ) (n : ℕ) where
       })
 
       go : (v : Verdict) → first_of (contents_tests r s) ≡ v → ((e : Refusal) × Refuses e) ⊎ (Wants ⊎ Builds)
-      go (Refused e) p = inl (e, record { contents = p; numbered = contents-numbered r s e p; verdict = append-refused (contents_tests r s) _ e p })
-      go Accepted p = inr (more p (ltb n (length_built (content_given r s))) refl)
+      go (Err e) p = inl (e, record { contents = p; numbered = contents-numbered r s e p; verdict = append-refused (contents_tests r s) _ e p })
+      go (Ok u) p = inr (more p (ltb n (length_built (content_given r s))) refl)
 
   pub answer-bound : (answer_of r s n).length ≤ 13710
   unfolding answer_of answer_from

@@ -22,7 +22,7 @@ use Rattle.ibft_table.specs.Table.{word_count, start_at, used_at, kind_at, index
 use Rattle.table_header.specs.Header.{padded}
 use Rattle.ibft_table.specs.Check.{reserved_set, check_of}
 use Rattle.ibft_table.specs.Record.{Content}
-use Rattle.table_header.specs.declared.verdict.Verdict.TheVariants.{Accepted}
+use Rattle.table_header.specs.Verdict.{Accepted}
 use Rattle.ibft_table_laws.specs.Facts.{HeaderFacts, ControlFacts, WordFacts, EntryFacts, Apart}
 use Rattle.ibft_table_laws.proofs.SeatBackLaws.{extra-back}
 use Rattle.ibft_build_rules.proofs.WordsBackLaws.{seat-high}

@@ -8,11 +8,11 @@
 --     offset-is, offset-none, offset-low, offset-high              an entry's offset
 --     start-below, length-below, offset-below, size_below          every number of the plan fits a word
 -- Assumes nothing.
+use Rattle.std.specs.Prelude.{Option, None, Some}
 use mathlib.Core.Path.{◌≡◌, refl, sym, ap, ◌∙◌}
 use mathlib.Core.Logic.{◌⊎◌, inl, inr}
 use mathlib.Core.Bool.{Bool, true, false, cond}
 use mathlib.Core.List.{List}
-use mathlib.Core.Option.{Option, none, some}
 use Prim.Native.Nat.{ℕ, zero, suc, ◌+◌, ◌%◌, ◌≤◌, ◌<◌}
 use native.Mathlib.Decide.{dec_lt}
 use native.Mathlib.Omega.{arith}
@@ -32,16 +32,16 @@ use Rattle.ibft_build_rules.proofs.GoodContent.{Good}
 use Rattle.ibft_build_rules.proofs.BoundLaws.{heap-start-bound, length-bound}
 
 -- what is present is some bytes
-pub present-some : (o : Option (List ℕ)) → is_present o ≡ true → (b : List ℕ) × (o ≡ some b)
+pub present-some : (o : Option (List ℕ)) → is_present o ≡ true → (b : List ℕ) × (o ≡ Some b)
 unfolding is_present
-present-some none e = absurd (let z : ◌≡◌ {A = ℕ} 0 1 = cc in omega arith)
-present-some (some b) e = (b, refl)
+present-some None e = absurd (let z : ◌≡◌ {A = ℕ} 0 1 = cc in omega arith)
+present-some (Some b) e = (b, refl)
 
-pub some-present : (o : Option (List ℕ)) (b : List ℕ) → o ≡ some b → is_present o ≡ true
+pub some-present : (o : Option (List ℕ)) (b : List ℕ) → o ≡ Some b → is_present o ≡ true
 unfolding is_present
 some-present o b e = ap is_present e
 
-pub none-absent : (o : Option (List ℕ)) → o ≡ none → is_present o ≡ false
+pub none-absent : (o : Option (List ℕ)) → o ≡ None → is_present o ≡ false
 unfolding is_present
 none-absent o e = ap is_present e
 
@@ -171,11 +171,11 @@ pub length-least : (c : Content) → control_end (extras_built c) ≤ length_bui
 length-least c = omega (arith, heap-start-least c, heap-start-length c)
 
 module _ (c : Content) (n : ℕ) where
-  pub offset-none : c.entry n ≡ none → offset_built c n ≡ 0
+  pub offset-none : c.entry n ≡ None → offset_built c n ≡ 0
   unfolding offset_built offset_as
   offset-none e = ap (offset_as c n) e
 
-  module _ (a : List ℕ) (is : c.entry n ≡ some a) where
+  module _ (a : List ℕ) (is : c.entry n ≡ Some a) where
     pub offset-is : offset_built c n ≡ heap_start c + place entry_count may_share c.entry n a
     unfolding offset_built offset_as
     offset-is = ap (offset_as c n) is
@@ -205,13 +205,13 @@ module _ (c : Content) where
       offset-below = go (c.entry n) refl
         where
           go : (o : Entry) → c.entry n ≡ o → offset_built c n < 65536
-          go none e = omega (arith, offset-none c n e)
-          go (some a) e = omega (arith, offset-high c n a e h, length-below)
+          go None e = omega (arith, offset-none c n e)
+          go (Some a) e = omega (arith, offset-high c n a e h, length-below)
 
       pub size_below : len (c.entry n) < 65536
       unfolding len
       size_below = go (c.entry n) refl
         where
           go : (o : Entry) → c.entry n ≡ o → len (c.entry n) < 65536
-          go none e = omega (arith, ap len e)
-          go (some a) e = omega (arith, ap len e, offset-high c n a e h, length-below)
+          go None e = omega (arith, ap len e)
+          go (Some a) e = omega (arith, ap len e, offset-high c n a e h, length-below)

@@ -28,7 +28,7 @@ use Rattle.ibft_layout.specs.Layout.{Kind, nic, target, kind_of, entry_count, sl
 use Rattle.ibft_layout.specs.Layout.{extra_nics, extra_targets, owner_of, string_of, first_entry}
 use Rattle.ibft_table.specs.Table.{starts_of, nics_in, field_in, size_in, offset_in, start_of, present, size_of, offset_of, holds_entry}
 use Rattle.ibft_table.specs.Check.{check_of}
-use Rattle.table_header.specs.declared.verdict.Verdict.TheVariants.{Accepted}
+use Rattle.table_header.specs.Verdict.{Accepted}
 use Rattle.ibft_table_laws.proofs.LayoutLaws.{slot-fits, entry-inside}
 use Rattle.ibft_table_laws.proofs.TableLaws.{present-below, facts, length-least, length-le, slot-end-le, entry-owner-on, entry_kept}
 use Rattle.ibft_table_laws.proofs.NumberingLaws.{ExtrasOf, nic-extras, target-extras, extras-are, nics-most, nics-are, targets-most, targets-are}

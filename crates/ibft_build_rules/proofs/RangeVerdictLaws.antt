@@ -23,12 +23,11 @@ use Rattle.octets.proofs.TestLaws.{and_no, same_differs}
 use Rattle.hostname.specs.Hostname.{is_host_name}
 use Rattle.ibft_layout.specs.Layout.{Kind, control, nic, target, kind_of, slot_count, entry_count, named_count, named_entries, extra_most}
 use Rattle.ibft_layout.specs.Layout.{extra_nics, extra_targets, least_index, control_at, chap_at, string_of, entry_number}
-use Rattle.table_header.specs.Verdict.{refuse, first_of}
+use Rattle.table_header.specs.Verdict.{refuse, first_of, Accepted}
 use Rattle.ibft_table.specs.Table.{starts_of, end_in, index_in, holds_in, start_of, present, holds_entry}
 use Rattle.table_header.specs.Header.{padded}
 use Rattle.ibft_table.specs.Check.{reserved_set, check_of}
 use Rattle.ibft_table.specs.Record.{body_size, content_in, content_of}
-use Rattle.table_header.specs.declared.verdict.Verdict.TheVariants.{Accepted}
 use Rattle.ibft_layout.proofs.LayoutLaws.{owner-past}
 use Rattle.table_header.proofs.VerdictLaws.{accept-none, pass-cons, accept-cons, cons_same, append-accepted, gather-accepts, gather-verdict-same}
 use Rattle.ibft_table_laws.specs.Facts.{Facts}

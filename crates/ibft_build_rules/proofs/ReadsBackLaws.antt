@@ -4,10 +4,10 @@
 --     begins-reads-back                             a list that begins with the table
 --     reads-back                                    the table, with any bytes behind it
 -- Assumes nothing.
+use Rattle.std.specs.Prelude.{Option, None, Some}
 use mathlib.Core.Path.{◌≡◌, refl, sym, ◌∙◌}
 use mathlib.Core.Bool.{Bool, true, false, cond}
 use mathlib.Core.List.{List, ◌++◌}
-use mathlib.Core.Option.{Option, none, some}
 use Prim.Native.Nat.{ℕ, ◌+◌, ◌≤◌, ◌<◌}
 use native.Mathlib.Decide.{dec_lt}
 use native.Mathlib.Omega.{arith}
@@ -25,11 +25,11 @@ use Rattle.ibft_build_rules.proofs.BuiltLaws.{Begins, begins-append, oem-id-back
 use Rattle.ibft_build_rules.proofs.BuiltLaws.{present-back, index_back, body_back, holds-back, entry-back}
 
 -- what is shown where it is present is what is present
-shown-is : (o : Option (List ℕ)) (there : Bool) (bytes : List ℕ) → there ≡ is_present o → ((b : List ℕ) → o ≡ some b → bytes ≡ b)
+shown-is : (o : Option (List ℕ)) (there : Bool) (bytes : List ℕ) → there ≡ is_present o → ((b : List ℕ) → o ≡ Some b → bytes ≡ b)
     → shown_if there bytes ≡ o
 unfolding is_present
-shown-is none there bytes e same = rw e
-shown-is (some b) there bytes e same = rw (e, same b refl)
+shown-is None there bytes e same = rw e
+shown-is (Some b) there bytes e same = rw (e, same b refl)
 
 module _ (c : Content) (good : Good c) (t : List ℕ) (front : Begins c t) where
   structure-reads : (k : ℕ) → k < slot_count → (content_of t).structure k ≡ c.structure k

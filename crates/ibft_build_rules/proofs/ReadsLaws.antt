@@ -18,7 +18,7 @@ use Rattle.ibft_layout.specs.Layout.{Kind, nic, target, kind_of, flags_at, entry
 use Rattle.ibft_layout.specs.Layout.{extra_nics, extra_targets, owner_of, first_entry}
 use Rattle.ibft_table.specs.Table.{starts_of, nics_in, holds_in, start_of, present, size_of, offset_of, holds_entry}
 use Rattle.ibft_table.specs.Check.{check_of}
-use Rattle.table_header.specs.declared.verdict.Verdict.TheVariants.{Accepted}
+use Rattle.table_header.specs.Verdict.{Accepted}
 use Rattle.ibft_layout.proofs.LayoutLaws.{owner-later}
 use Rattle.ibft_table_laws.proofs.LayoutLaws.{entry-fits}
 use Rattle.ibft_table_laws.proofs.TableLaws.{present-past, facts}

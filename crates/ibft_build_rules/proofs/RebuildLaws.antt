@@ -9,6 +9,7 @@
 --     rebuild-refused                                that of a table that the check refuses
 --     rebuild-placed                                 the place of a refusal keeps to 24 bits
 -- Assumes nothing.
+use Rattle.std.specs.Prelude.{Ok, Err}
 use mathlib.Core.Path.{◌≡◌, refl, sym, ap, ◌∙◌, subst}
 use mathlib.Core.Logic.{⊎_elim}
 use mathlib.Core.Bool.{Bool, true, false}
@@ -20,13 +21,11 @@ use lib.Dec.{ltb}
 use Rattle.octets.specs.Counting.{gather}
 use Rattle.octets.specs.Octets.{byte, part}
 use Rattle.ibft_layout.specs.Layout.{entry_count}
-use Rattle.table_header.specs.Verdict.{refuse, first_of, refusal_of}
+use Rattle.table_header.specs.Verdict.{refuse, first_of, refusal_of, Verdict, Accepted, Refused}
 use Rattle.ibft_table.specs.Table.{starts_of, size_of, offset_of, holds_entry}
 use Rattle.ibft_table.specs.Check.{check_tests, check_of}
 use Rattle.ibft_table.specs.Record.{Record, Content, listed, content_of, record_of}
 use Rattle.table_header.specs.declared.verdict.Refusal.{Refusal}
-use Rattle.table_header.specs.declared.verdict.Verdict.{Verdict}
-use Rattle.table_header.specs.declared.verdict.Verdict.TheVariants.{Accepted, Refused}
 use Rattle.table_header.specs.Promises.{ReturnsChecksum}
 use Rattle.table_header.proofs.VerdictLaws.{accepted-not-refused, accept-none, accept-cons, passes, append-accepted, append-refused}
 use Rattle.table_header.proofs.VerdictLaws.{append-same, gather-passes, gather-accepts, every-none, every_append, every-gather}
@@ -167,16 +166,16 @@ module _ (t : List ℕ) (ok : check_of t ≡ Accepted) where
   answer-range n = ap (rebuild_from t) (verdict-range n) ∙ go (build_verdict (range_of t) t n)
     where
       go : (v : Verdict) → rebuild_from t v ≡ answer_from (range_of t) t v
-      go Accepted = ap (λ (c : Content). record { refusal = refusal_of Accepted; length = length_built c }) (sym content)
-      go (Refused e) = refl
+      go (Ok u) = ap (λ (c : Content). record { refusal = refusal_of Accepted; length = length_built c }) (sym content)
+      go (Err e) = refl
 
   pub room-range : (room : List ℕ) → rebuild_room t room ≡ room_after (range_of t) t room
   unfolding rebuild_room rebuilt_from room_after room_from
   room-range room = ap (rebuilt_from t room) (verdict-range (length room)) ∙ go (build_verdict (range_of t) t (length room))
     where
       go : (v : Verdict) → rebuilt_from t room v ≡ room_from (range_of t) t room v
-      go Accepted = ap (λ (c : Content). table_of c ++ drop (length_built c) room) (sym content)
-      go (Refused e) = refl
+      go (Ok u) = ap (λ (c : Content). table_of c ++ drop (length_built c) room) (sym content)
+      go (Err e) = refl
 
 pub rebuilds-the-same : RebuildsTheSame
 rebuilds-the-same t ok clean =
@@ -264,8 +263,8 @@ module _ (t before : List ℕ) (ok : check_of t ≡ Accepted) where
   -- what comes behind the check has no checksum byte
   refusal_is : (v : Verdict) → refusal_of v ≡ (rebuild_from t v).refusal
   unfolding rebuild_from refusal_of
-  refusal_is Accepted = refl
-  refusal_is (Refused e) = refl
+  refusal_is (Ok u) = refl
+  refusal_is (Err e) = refl
 
   checksum-none : (n : ℕ) → ReturnsChecksum t (rebuild_answer t n).refusal
   unfolding rebuild_answer rebuild_verdict zero_tests check_of
@@ -312,8 +311,8 @@ rebuild-promise t before answer after p q = go (check_of t) refl
         subst (λ (x : Built). Rebuild t before x after) e (subst (λ (l : List ℕ). Rebuild t before a l) f w)
 
     go : (v : Verdict) → check_of t ≡ v → Rebuild t before answer after
-    go Accepted ok = same (accepts t before ok)
-    go (Refused e) told = same (rebuild-refused t e told before)
+    go (Ok u) ok = same (accepts t before ok)
+    go (Err e) told = same (rebuild-refused t e told before)
 
 -- its place keeps to 24 bits, of bytes
 pub rebuild-placed : (t : List ℕ) (n : ℕ) → ((i : ℕ) → byte t i < 256) → (rebuild_answer t n).refusal.place < 2 ^ 24
@@ -321,6 +320,6 @@ unfolding rebuild_answer rebuild_from
 rebuild-placed t n bytes = go (check_of t) refl
   where
     go : (v : Verdict) → check_of t ≡ v → (rebuild_answer t n).refusal.place < 2 ^ 24
-    go Accepted ok = omega (arith, answer-placed (range_of t) t n, ap (λ (b : Built). b.refusal.place) (answer-range t ok n))
-    go (Refused e) told =
+    go (Ok u) ok = omega (arith, answer-placed (range_of t) t n, ap (λ (b : Built). b.refusal.place) (answer-range t ok n))
+    go (Err e) told =
         omega (arith, place-below t bytes e told, ap (λ (v : Verdict). (rebuild_from t v).refusal.place) (verdict-refused t e told n))

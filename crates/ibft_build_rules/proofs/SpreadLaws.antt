@@ -3,10 +3,10 @@
 --     given-spread       the content of a range is that of its record
 --     records-tables     equal records have equal tables
 -- Assumes nothing.
+use Rattle.std.specs.Prelude.{None}
 use mathlib.Core.Path.{◌≡◌, sym, ap, ◌∙◌}
 use mathlib.Core.Bool.{false}
 use mathlib.Core.List.{List}
-use mathlib.Core.Option.{none}
 use Prim.Native.Nat.{ℕ, ◌≤◌}
 use native.Mathlib.Decide.{dec_lt}
 use native.Mathlib.Omega.{arith}
@@ -28,9 +28,9 @@ spread r =
       oem_id = r.oem_id;
       oem_table_id = r.oem_table_id;
       flags = r.flags;
-      structure = λ (k : ℕ). get_or r.structures k none;
+      structure = λ (k : ℕ). get_or r.structures k None;
       index = λ (k : ℕ). get_or r.indices k 0;
-      entry = λ (n : ℕ). get_or r.entries n none;
+      entry = λ (n : ℕ). get_or r.entries n None;
     }
 
 -- a listing of n, at every number, where nothing stands from n on
@@ -54,9 +54,9 @@ module _ (r s : List ℕ) where
   unfolding spread record_given listed content_given
   given-spread =
       let c : Content = content_given r s in
-      let structures = listed_at c.structure slot_count none (λ k h. rw (given-past r k h)) in
+      let structures = listed_at c.structure slot_count None (λ k h. rw (given-past r k h)) in
       let indices = listed_at c.index slot_count 0 (λ k h. index-past k h) in
-      let entries = listed_at c.entry entry_count none (λ n h. rw (entry_past n h)) in
+      let entries = listed_at c.entry entry_count None (λ n h. rw (entry_past n h)) in
       λ i. record {
         oem_id = c.oem_id;
         oem_table_id = c.oem_table_id;

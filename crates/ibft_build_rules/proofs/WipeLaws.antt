@@ -3,10 +3,10 @@
 --     wiped-record     so the table reads as the same record, but for the bytes of that secret
 --     wipes-alone      the promise
 -- Assumes nothing.
+use Rattle.std.specs.Prelude.{Option, Some}
 use mathlib.Core.Path.{◌≡◌, sym, ap, ap₂, ◌∙◌}
 use mathlib.Core.Logic.{⊎_elim}
 use mathlib.Core.Bool.{true, false}
-use mathlib.Core.Option.{Option, some}
 use mathlib.Core.List.{List}
 use Prim.Native.Nat.{ℕ, ◌+◌, ◌≤◌, ◌<◌}
 use native.Mathlib.Omega.{arith}
@@ -21,7 +21,7 @@ use Rattle.ibft_table.specs.Table.{heap_of, size_of, offset_of, holds_entry}
 use Rattle.ibft_table.specs.Check.{check_of}
 use Rattle.ibft_table.specs.Record.{listed, content_in, content_of, record_of}
 use Rattle.ibft_table.specs.Secrets.{secrets_apart}
-use Rattle.table_header.specs.declared.verdict.Verdict.TheVariants.{Accepted}
+use Rattle.table_header.specs.Verdict.{Accepted}
 use Rattle.ibft_table_laws.specs.Begins.{Begins}
 use Rattle.ibft_table_laws.proofs.TableLaws.{length-le, holds-below, entry_kept}
 use Rattle.ibft_table_laws.proofs.RecordLaws.{shown-same}
@@ -76,7 +76,7 @@ module _
         (λ x. part-before t (offset_of t n) xs (offset_of t m) (size_of t m) inside (omega (arith, x)))
         (apart-secret t apart n m below h (λ e. ne (sym e)) alone on there))
 
-    own : (content_of wiped).entry n ≡ some (take (size_of t n) xs)
+    own : (content_of wiped).entry n ≡ Some (take (size_of t n) xs)
     unfolding content_of content_in wiped
     own =
         shown-same (holds_entry wiped n) true _ _ (front-holds t wiped ok front n below ∙ on)

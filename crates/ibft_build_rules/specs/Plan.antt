@@ -1,7 +1,6 @@
 -- Where a build puts things: structures in the build's order, the first at the first multiple of 8 at or behind Control's end,
 -- each next at the next; then the heap. Assumes nothing: these are definitions.
-use Rattle.std.specs.Prelude.{ℕ, ◌+◌, List, Bool, true, false, cond, eqb}
-use Rattle.std.proofs.Math.Option.{Option, none, some}
+use Rattle.std.specs.Prelude.{ℕ, ◌+◌, List, Bool, true, false, cond, eqb, Option, None, Some}
 use Rattle.octets.specs.Counting.{first, count}
 use Rattle.string_heap.specs.Stored.{Entry, heap_size}
 use Rattle.string_heap.specs.Places.{place}
@@ -10,8 +9,8 @@ use Rattle.ibft_layout.specs.Layout.{kind_of, slot_count, entry_count, named_cou
 use Rattle.ibft_table.specs.Record.{Content}
 
 unfoldable pub is_present : Option (List ℕ) → Bool
-is_present none = false
-is_present (some b) = true
+is_present None = false
+is_present (Some b) = true
 
 -- how many extra structures there are: Control has a word for each
 unfoldable pub extras_built : Content → ℕ
@@ -42,8 +41,8 @@ largest_length = 13710
 
 -- the offset of entry n, 0 where it is missing
 unfoldable pub offset_as : Content → ℕ → Entry → ℕ
-offset_as c n none = 0
-offset_as c n (some a) = heap_start c + place entry_count may_share c.entry n a
+offset_as c n None = 0
+offset_as c n (Some a) = heap_start c + place entry_count may_share c.entry n a
 
 unfoldable pub offset_built : Content → ℕ → ℕ
 offset_built c n = offset_as c n (c.entry n)

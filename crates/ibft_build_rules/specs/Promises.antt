@@ -5,7 +5,7 @@ use Rattle.octets.specs.Promises.{ChecksumByte}
 use Rattle.table_header.specs.Header.{length_of}
 use Rattle.ibft_table.specs.Check.{check_of}
 use Rattle.ibft_table.specs.Record.{Record, record_of}
-use Rattle.table_header.specs.declared.verdict.Verdict.TheVariants.{Accepted}
+use Rattle.table_header.specs.Verdict.{Accepted}
 use Rattle.ibft_build_rules.specs.RecordRange.{record_given}
 use Rattle.ibft_build_rules.specs.Refusals.{contents_verdict}
 use Rattle.ibft_build_rules.specs.Build.{answer_of, room_after}

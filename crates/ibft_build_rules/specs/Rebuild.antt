@@ -1,15 +1,13 @@
 -- Reading a table and building it again (RULES.md, Building): the record range that says what a table holds, with the table
 -- itself as the range of its strings; what a rebuild answers and leaves in the room. Assumes nothing: these are definitions.
-use Rattle.std.specs.Prelude.{ℕ, ◌+◌, List, [], ◌∷◌, ◌++◌, Bool, cond, ◌&&◌, length, drop, ltb}
+use Rattle.std.specs.Prelude.{ℕ, ◌+◌, List, [], ◌∷◌, ◌++◌, Bool, cond, ◌&&◌, length, drop, ltb, Ok, Err}
 use Rattle.octets.specs.Counting.{count, tabulate, gather}
 use Rattle.octets.specs.Octets.{byte, part, zeros}
 use Rattle.ibft_layout.specs.Layout.{kind_of, entry_count, named_count, named_entries, most_words, extra_most, extra_targets, first_entry, entry_number}
-use Rattle.table_header.specs.Verdict.{Test, refuse, first_of, refusal_of}
+use Rattle.table_header.specs.Verdict.{Test, refuse, first_of, refusal_of, Verdict, Accepted, Refused}
 use Rattle.ibft_table.specs.Table.{starts_of, start_in, present_in, nics_in, size_in, offset_in, holds_in}
 use Rattle.ibft_table.specs.Check.{check_tests}
 use Rattle.ibft_table.specs.Record.{content_of}
-use Rattle.table_header.specs.declared.verdict.Verdict.{Verdict}
-use Rattle.table_header.specs.declared.verdict.Verdict.TheVariants.{Accepted, Refused}
 use Rattle.ibft_build_rules.specs.Refusals.{has_zero}
 use Rattle.ibft_build_rules.specs.Plan.{length_built}
 use Rattle.ibft_build_rules.specs.TableBytes.{table_of}
@@ -65,16 +63,16 @@ rebuild_verdict t n =
 
 -- the answer: refused, Length 0
 unfoldable pub rebuild_from : List ℕ → Verdict → Built
-rebuild_from t Accepted = record { refusal = refusal_of Accepted; length = length_built (content_of t) }
-rebuild_from t (Refused e) = record { refusal = e; length = 0 }
+rebuild_from t (Ok u) = record { refusal = refusal_of Accepted; length = length_built (content_of t) }
+rebuild_from t (Err e) = record { refusal = e; length = 0 }
 
 unfoldable pub rebuild_answer : List ℕ → ℕ → Built
 rebuild_answer t n = rebuild_from t (rebuild_verdict t n)
 
 -- the room afterwards: the table, and past its Length the bytes as they were; refused, untouched
 unfoldable pub rebuilt_from : List ℕ → List ℕ → Verdict → List ℕ
-rebuilt_from t room Accepted = table_of (content_of t) ++ drop (length_built (content_of t)) room
-rebuilt_from t room (Refused e) = room
+rebuilt_from t room (Ok u) = table_of (content_of t) ++ drop (length_built (content_of t)) room
+rebuilt_from t room (Err e) = room
 
 unfoldable pub rebuild_room : List ℕ → List ℕ → List ℕ
 rebuild_room t room = rebuilt_from t room (rebuild_verdict t (length room))

@@ -5,10 +5,9 @@ use Rattle.octets.specs.Octets.{byte, part, differs}
 use Rattle.hostname.specs.Hostname.{is_host_name}
 use Rattle.ibft_layout.specs.Layout.{control, nic, target, kind_of, chap_at, slot_count, entry_count, named_count, named_entries, extra_most}
 use Rattle.ibft_layout.specs.Layout.{extra_nics, least_index, string_of, slot_number, entry_number}
-use Rattle.table_header.specs.Verdict.{Test, refuse, first_of}
+use Rattle.table_header.specs.Verdict.{Test, refuse, first_of, Verdict}
 use Rattle.table_header.specs.Header.{padded}
 use Rattle.ibft_table.specs.Check.{reserved_set}
-use Rattle.table_header.specs.declared.verdict.Verdict.{Verdict}
 use Rattle.ibft_build_rules.specs.RecordRange.{base_size, range_size, marks_at, nics_given, targets_given, nic_image, target_image, image_at}
 use Rattle.ibft_build_rules.specs.RecordRange.{structure_given, entry_given, length_given, start_given, bytes_given}
 

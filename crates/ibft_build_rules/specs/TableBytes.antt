@@ -1,7 +1,6 @@
 -- The table of a record, byte by byte; gaps and reserved bytes are zero, the checksum comes last.
 -- Assumes nothing: these are definitions.
-use Rattle.std.specs.Prelude.{ℕ, ◌+◌, ◌*◌, ◌-◌, List, [], ◌∷◌, ◌++◌, cond, length, set}
-use Rattle.std.proofs.Math.Option.{Option, none, some}
+use Rattle.std.specs.Prelude.{ℕ, ◌+◌, ◌*◌, ◌-◌, List, [], ◌∷◌, ◌++◌, cond, length, set, Option, None, Some}
 use Rattle.octets.specs.Counting.{gather}
 use Rattle.octets.specs.Octets.{le16, le32, zeros, checksum}
 use Rattle.string_heap.specs.Places.{len, heap_to}
@@ -45,8 +44,8 @@ structure_bytes c k body =
 
 -- the gap and the structure that are j-th in the build's order, nothing where it is absent
 unfoldable pub stretch_as : Content → ℕ → Option (List ℕ) → List ℕ
-stretch_as c j none = []
-stretch_as c j (some body) = zeros (align8 (end_built c j) - end_built c j) ++ structure_bytes c (built_slot j) body
+stretch_as c j None = []
+stretch_as c j (Some body) = zeros (align8 (end_built c j) - end_built c j) ++ structure_bytes c (built_slot j) body
 
 unfoldable pub stretch : Content → ℕ → List ℕ
 stretch c j = stretch_as c j (c.structure (built_slot j))

@@ -1,6 +1,5 @@
 -- What whoever wipes a secret may rely on. Nothing but the promise stands here.
-use Rattle.std.specs.Prelude.{◌≡◌, true, false, List, ℕ, ◌+◌, length, take, set}
-use Rattle.std.proofs.Math.Option.{some}
+use Rattle.std.specs.Prelude.{◌≡◌, true, false, List, ℕ, ◌+◌, length, take, set, Some}
 use Rattle.octets.specs.Octets.{write}
 use Rattle.ibft_layout.specs.Layout.{may_share}
 use Rattle.ibft_table.specs.Table.{size_of, offset_of, holds_entry}
@@ -16,7 +15,7 @@ with_entry n a c =
       flags = c.flags;
       structures = c.structures;
       indices = c.indices;
-      entries = set c.entries n (some a);
+      entries = set c.entries n (Some a);
     }
 
 -- Whatever is written over a secret of a table that serves a record, and over the zero behind it: the table reads as that

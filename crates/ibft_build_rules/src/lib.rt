@@ -7,6 +7,7 @@ pub mod range;
 use table_header::verdict::Refusal;
 
 // What a build answers: its refusal (all 0 where it is accepted) and the table's Length.
+// (No Result: `answer_of` and the promises speak of both numbers in every case, and C is handed them.)
 #[derive(Clone, Copy)]
 pub struct Built {
     pub refusal: Refusal,

@@ -6,6 +6,7 @@
 --     shown-lies                                     it lies inside the left table, or is nothing
 --     unequal-le                                     the first unequal byte of two strings is at most behind the first one
 -- Assumes nothing.
+use Rattle.std.specs.Prelude.{Ok, Err}
 use mathlib.Core.Path.{◌≡◌, refl, sym, ap, ◌∙◌}
 use mathlib.Core.Bool.{Bool, true, false, cond}
 use mathlib.Core.Logic.{◌⊎◌, inl, inr}
@@ -17,10 +18,8 @@ use lib.ListN.{length, drop}
 use Rattle.octets.specs.Octets.{byte, part, differs}
 use Rattle.octets.proofs.CountingLaws.{clash, first-le}
 use Rattle.octets.proofs.TestLaws.{same_differs}
-use Rattle.table_header.specs.Verdict.{refusal_of}
+use Rattle.table_header.specs.Verdict.{refusal_of, Verdict, Accepted, Refused}
 use Rattle.table_header.specs.declared.verdict.Refusal.{Refusal}
-use Rattle.table_header.specs.declared.verdict.Verdict.{Verdict}
-use Rattle.table_header.specs.declared.verdict.Verdict.TheVariants.{Accepted, Refused}
 use Rattle.ibft_layout.specs.Layout.{first_entry, owner_of}
 use Rattle.ibft_table.specs.Table.{starts_of, present_in, end_in, offset_in, start_of, field_of, offset_of, size_of, holds_entry}
 use Rattle.ibft_table.specs.Check.{check_of}
@@ -47,8 +46,8 @@ module _ (left right : List ℕ) where
   both-accepted e = go (check_of left) (check_of right) e
     where
       go : (l r : Verdict) → both_verdict l r ≡ Accepted → (l ≡ Accepted) × (r ≡ Accepted)
-      go Accepted r e = (refl, e)
-      go (Refused x) r e = absurd (let z : ◌≡◌ {A = ℕ} 0 1 = cc in omega arith)
+      go (Ok u) r e = (refl, e)
+      go (Err x) r e = absurd (let z : ◌≡◌ {A = ℕ} 0 1 = cc in omega arith)
 
   pub list-accepted : verdict_of left right ≡ Accepted → list_of left right
       ≡ differing (content_of left) (content_of right) (points (pairs_in (indices_of left) (indices_of right)))
@@ -80,8 +79,8 @@ module _ (left right : List ℕ) where
       }
     where
       empty : (v : Verdict) → verdict_of left right ≡ v → ((refusal_of (verdict_of left right)).number ≡ 0 → ⊥) → length (list_of left right) ≡ 0
-      empty Accepted e refused = absurd (refused (ap (λ (v : Verdict). (refusal_of v).number) e))
-      empty (Refused x) e refused = ap (λ (ps : List Point). length ps) (list-refused x e)
+      empty (Ok u) e refused = absurd (refused (ap (λ (v : Verdict). (refusal_of v).number) e))
+      empty (Err x) e refused = ap (λ (ps : List Point). length ps) (list-refused x e)
 
 -- ---- what is shown
 
@@ -197,5 +196,5 @@ shown-lies left right k = go (verdict_of left right) refl
     nothing_left (suc k) = inl (refl, refl)
 
     go : (v : Verdict) → verdict_of left right ≡ v → Inside left (first_stretch (shown_stretch left right) (drop k (list_of left right)))
-    go Accepted e = shown-inside left right (both-accepted left right e).0 (drop k (list_of left right))
-    go (Refused x) e = rw (list-refused left right x e) (nothing_left k)
+    go (Ok u) e = shown-inside left right (both-accepted left right e).0 (drop k (list_of left right))
+    go (Err x) e = rw (list-refused left right x e) (nothing_left k)

@@ -1,6 +1,7 @@
 pub mod OrderLaws
 pub mod UnequalLaws
 pub mod SlotWithLaws
+pub mod NextLaws
 pub mod PairLaws
 pub mod SameLaws
 pub mod WalkLaws

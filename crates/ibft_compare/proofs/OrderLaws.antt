@@ -4,6 +4,7 @@
 --     list-rises     the turn of each difference's name is below that of the next one's
 --     kind-holds     a test that holds for the kind of every slot
 -- Assumes nothing.
+use Rattle.std.specs.Prelude.{Ok, Err}
 use mathlib.Core.Path.{◌≡◌, refl, ap, ◌∙◌}
 use mathlib.Core.Bool.{Bool, true, false, not, cond, ◌&&◌}
 use mathlib.Core.List.{List, [], ◌∷◌, ◌++◌, map}
@@ -16,8 +17,7 @@ use lib.Dec.{leb, eqb}
 use Rattle.octets.specs.Counting.{any, tabulate, gather}
 use Rattle.octets.proofs.TestLaws.{and_both}
 use Rattle.octets.proofs.CountingLaws.{each_holds}
-use Rattle.table_header.specs.declared.verdict.Verdict.{Verdict}
-use Rattle.table_header.specs.declared.verdict.Verdict.TheVariants.{Accepted, Refused}
+use Rattle.table_header.specs.Verdict.{Verdict, Accepted, Refused}
 use Rattle.ibft_layout.specs.Layout.{Field, field, StringField, Kind, initiator, flags_at, kinds, slot_count, kind_of, named_count, extra_nics}
 use Rattle.ibft_layout.specs.Layout.{extra_targets, least_index}
 use Rattle.ibft_table.specs.Record.{Content}
@@ -212,5 +212,5 @@ unfolding list_of list_from between pairs_of
 list-rises left right = go (verdict_of left right)
   where
     go : (v : Verdict) → Rising (map turn_of (map name_of (list_from left right v)))
-    go Accepted = names-rise (differing-between _ _ (points-between (pairs-between _ _)))
-    go (Refused e) = none
+    go (Ok u) = names-rise (differing-between _ _ (points-between (pairs-between _ _)))
+    go (Err e) = none

@@ -5,10 +5,10 @@
 --     none-same     the two ways
 --     Each          every one of a list; append-each, map_each, gather-each, pairs-each, each-wider: of what it is made of
 -- Assumes nothing.
+use Rattle.std.specs.Prelude.{Option, None, Some}
 use mathlib.Core.Path.{◌≡◌, refl, sym, ap, ◌∙◌}
 use mathlib.Core.Bool.{Bool, true, false, cond, not, ◌&&◌}
 use mathlib.Core.Logic.{◌↔◌}
-use mathlib.Core.Option.{Option, none, some}
 use mathlib.Core.List.{List, [], ◌∷◌, ◌++◌, map}
 use Prim.Native.Nat.{ℕ, zero, suc, ◌+◌, ◌-◌, ◌^◌, ◌≤◌, ◌<◌}
 use native.Mathlib.Nat.{add-zero, zero-add}
@@ -23,7 +23,7 @@ use Rattle.octets.specs.Octets.{byte, part}
 use Rattle.octets.proofs.CountingLaws.{clash, each_holds, get_d_tabulate}
 use Rattle.octets.proofs.ReadLaws.{part_length, part_at}
 use Rattle.octets.proofs.TestLaws.{and_both, and_no, and-other, same_differs, differs-no}
-use Rattle.table_header.specs.declared.verdict.Verdict.TheVariants.{Accepted}
+use Rattle.table_header.specs.Verdict.{Accepted}
 use Rattle.ibft_layout.specs.Layout.{Kind, nic, target, Field, field, StringField, flags_at, kind_of, index_of, owner_of, first_entry, slot_count}
 use Rattle.ibft_layout.specs.Layout.{named_count, extra_most, extra_nics, extra_targets, least_index, entry_count}
 use Rattle.ibft_table.specs.Table.{starts_of, index_in, holds_in, start_of, present}
@@ -167,18 +167,18 @@ body_fields kind = field flags_at 1 ∷ kind.fields
 
 in-one-same : (x : Option (List ℕ)) → in_one x x ≡ false
 unfolding in_one
-in-one-same none = refl
-in-one-same (some x) = refl
+in-one-same None = refl
+in-one-same (Some x) = refl
 
 field-same : (f : Field) (x : Option (List ℕ)) → field_differs f x x ≡ false
 unfolding field_differs
-field-same f none = refl
-field-same f (some x) = unequal-same (part x (f.at - flags_at) f.width)
+field-same f None = refl
+field-same f (Some x) = unequal-same (part x (f.at - flags_at) f.width)
 
 string-same : (x : Option (List ℕ)) → string_differs x x ≡ false
 unfolding string_differs
-string-same none = refl
-string-same (some x) = unequal-same x
+string-same None = refl
+string-same (Some x) = unequal-same x
 
 -- a pair of one slot
 abbrev Level : Pair → Type 0
@@ -237,7 +237,7 @@ module _ (c : Content) where
 
 module _ (t : List ℕ) where
   module _ (k : ℕ) (off : present t k ≡ false) where
-    structure-off : (content_of t).structure k ≡ none
+    structure-off : (content_of t).structure k ≡ None
     unfolding content_of content_in
     structure-off = rw off
 
@@ -245,11 +245,11 @@ module _ (t : List ℕ) where
     unfolding content_of content_in index_in
     index-off h = rw (le-ltb k named_count h, off)
 
-    string-off : (j : ℕ) → k < slot_count → j < length (kind_of k).string_fields → (content_of t).entry (first_entry k + j) ≡ none
+    string-off : (j : ℕ) → k < slot_count → j < length (kind_of k).string_fields → (content_of t).entry (first_entry k + j) ≡ None
     unfolding content_of content_in holds_in
     string-off j h l = rw (slot-entry-owner k j h l, off)
 
-  entry_past : (n : ℕ) → entry_count ≤ n → (content_of t).entry n ≡ none
+  entry_past : (n : ℕ) → entry_count ≤ n → (content_of t).entry n ≡ None
   unfolding content_of content_in
   entry_past n h = rw (holds-past t n h)
 
@@ -320,7 +320,7 @@ module _ (x y : List ℕ) where
       ]
 
   abbrev FieldSame : Field → Type 0
-  FieldSame f = field_differs f (some x) (some y) ≡ false
+  FieldSame f = field_differs f (Some x) (Some y) ≡ false
 
   field-no : (f : Field) → FieldSame f → part x (f.at - flags_at) f.width ≡ part y (f.at - flags_at) f.width
   unfolding field_differs
@@ -354,17 +354,17 @@ structure-no : (k : ℕ) → k < slot_count → (p q : Bool) (x y : List ℕ) �
     → (q ≡ true → length y ≡ body_size (kind_of k)) → in_one (shown_if p x) (shown_if q y) ≡ false
     → Each (λ (f : Field). field_differs f (shown_if p x) (shown_if q y) ≡ false) (body_fields (kind_of k)) → shown_if p x ≡ shown_if q y
 unfolding in_one
-structure-no k h true true x y lx ly e all = ap some (body-no x y k h (lx refl) (ly refl) all)
+structure-no k h true true x y lx ly e all = ap Some (body-no x y k h (lx refl) (ly refl) all)
 structure-no k h true false x y lx ly e all = clash refl e
 structure-no k h false true x y lx ly e all = clash refl e
 structure-no k h false false x y lx ly e all = refl
 
 string-no : (x y : Option (List ℕ)) → string_differs x y ≡ false → x ≡ y
 unfolding string_differs
-string-no none none e = refl
-string-no none (some y) e = clash refl e
-string-no (some x) none e = clash refl e
-string-no (some x) (some y) e = ap some (unequal-no x y e)
+string-no None None e = refl
+string-no None (Some y) e = clash refl e
+string-no (Some x) None e = clash refl e
+string-no (Some x) (Some y) e = ap Some (unequal-no x y e)
 
 -- ---- a pair without a difference
 

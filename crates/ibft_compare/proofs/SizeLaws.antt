@@ -4,6 +4,7 @@
 --     index_named, Short     what short means
 --     difference-short      every reading is, where the left table is bytes
 -- Assumes nothing.
+use Rattle.std.specs.Prelude.{Ok, Err}
 use mathlib.Core.Path.{◌≡◌, refl}
 use mathlib.Core.Bool.{Bool, true, false, cond, ◌&&◌}
 use mathlib.Core.List.{List, [], ◌∷◌, ◌++◌, map}
@@ -15,9 +16,7 @@ use lib.Dec.{eqb, leb}
 use Rattle.octets.specs.Counting.{tabulate}
 use Rattle.octets.specs.Octets.{byte, part}
 use Rattle.octets.proofs.TestLaws.{and_both}
-use Rattle.table_header.specs.Verdict.{refusal_of}
-use Rattle.table_header.specs.declared.verdict.Verdict.{Verdict}
-use Rattle.table_header.specs.declared.verdict.Verdict.TheVariants.{Accepted, Refused}
+use Rattle.table_header.specs.Verdict.{refusal_of, Verdict, Accepted, Refused}
 use Rattle.ibft_layout.specs.Layout.{Field, field, StringField, Kind, flags_at, kind_of, index_of, first_entry, slot_count, named_count}
 use Rattle.ibft_layout.specs.Layout.{extra_nics, extra_targets, least_index}
 use Rattle.ibft_table.specs.Table.{starts_of, start_in, present_in, offset_in, field_of, offset_of, size_of, holds_entry}
@@ -281,11 +280,11 @@ unfolding difference_of shown_of
 difference-short left right k lefts = go (verdict_of left right) refl
   where
     go : (v : Verdict) → verdict_of left right ≡ v → Short (reading_of left right (drop k (list_of left right)))
-    go Accepted e =
+    go (Ok u) e =
         let ok = both-accepted left right e in
         let pairs = pairs_in (indices_of left) (indices_of right) in
         let small : Each Small (list_of left right) =
         rw (list-accepted left right e)
         (differing-small (content_of left) (content_of right) (points pairs) (points-small pairs (pairs-low (indices_of left) (indices_of right)))) in
         first_short left right lefts ok.0 ok.1 (drop k (list_of left right)) (drop-small k (list_of left right) small)
-    go (Refused x) e = rw (list-refused left right x e) (dropped-short left right k)
+    go (Err x) e = rw (list-refused left right x e) (dropped-short left right k)

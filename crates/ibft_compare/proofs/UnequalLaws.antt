@@ -1,8 +1,9 @@
 -- Laws of `first_unequal` and `unequal`: two strings are unequal exactly where they are not the same.
 --     unequal-same, unequal-no     a string against itself; strings that are not unequal
+--     unequal-is                   what `!=` says of two strings
 -- Assumes nothing.
-use mathlib.Core.Path.{◌≡◌, refl}
-use mathlib.Core.Bool.{false}
+use mathlib.Core.Path.{◌≡◌, refl, sym, ap, ◌∙◌}
+use mathlib.Core.Bool.{Bool, true, false, not, true≢false}
 use mathlib.Core.List.{List}
 use Prim.Native.Nat.{ℕ, ◌<◌, min}
 use native.Mathlib.Omega.{arith}
@@ -10,6 +11,7 @@ use borrow.Author.Tests.{eq-eqb, eqb-true, not-false}
 use lib.ListN.{length}
 use lib.Seq.{ext_get_or}
 use lib.Dec.{eqb}
+use lib.Pointwise.{pointwise, bytes_decides}
 use Rattle.octets.specs.Octets.{byte, differs}
 use Rattle.octets.proofs.CountingLaws.{first-is, first_below}
 use Rattle.octets.proofs.TestLaws.{and_both, differs-no, same_differs}
@@ -39,3 +41,12 @@ unequal-no a b e =
     let both = and_both (eqb (length a) (length b)) (eqb (first_unequal a b) (length a)) (not-false _ e) in
     ext_get_or 0 a b (eqb-true (length a) (length b) both.0)
     (λ k l. first-unequal-before a b k (omega (arith, eqb-true (first_unequal a b) (length a) both.1)))
+
+pub unequal-is : (a b : List ℕ) (r : Bool) → r ≡ not (pointwise eqb a b) → r ≡ unequal a b
+unequal-is a b r is = is ∙ go (pointwise eqb a b) (unequal a b) refl refl
+  where
+    go : (p u : Bool) → pointwise eqb a b ≡ p → unequal a b ≡ u → not p ≡ u
+    go true true e f = absurd (true≢false (sym f ∙ ap (unequal a) (sym ((bytes_decides a b).0 e)) ∙ unequal-same a))
+    go true false e f = refl
+    go false true e f = refl
+    go false false e f = absurd (true≢false (sym ((bytes_decides a b).1 (unequal-no a b f)) ∙ e))

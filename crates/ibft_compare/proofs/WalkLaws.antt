@@ -4,7 +4,7 @@
 --     walked-few                     no more differences than points
 --     walked-is                      from its start on: how many differ, and the one asked for
 --     each-gather, each-tabulate, each-pairs, points-walked      the points of several pairs, and all points
---     fields-gather, strings-gather                              the points of one
+--     points-gather                                              the points of one
 -- Assumes nothing.
 use mathlib.Core.Path.{◌≡◌, refl, sym, ap, ap₂, ◌∙◌}
 use mathlib.Core.Bool.{Bool, true, false, cond}
@@ -24,6 +24,7 @@ use Rattle.ibft_compare.specs.declared.difference.Difference.{Difference}
 use Rattle.ibft_compare.specs.declared.difference.Difference.TheVariants.{Nothing}
 use Rattle.ibft_compare.specs.declared.difference.Stretch.{Stretch}
 use Rattle.ibft_compare.specs.declared.pair.Pair.{Pair}
+use Rattle.ibft_compare.specs.declared.walk.Aspect.{Aspect}
 use Rattle.ibft_compare.specs.declared.walk.Aspect.TheVariants.{Presence, Fields, Strings}
 use Rattle.ibft_compare.specs.declared.walk.Met.{Met}
 use Rattle.ibft_compare.specs.Pairs.{extra_pairs, pairs_in}
@@ -31,7 +32,7 @@ use Rattle.ibft_compare.specs.Points.{Point, oem_id, oem_table_id, control_flags
 use Rattle.ibft_compare.specs.Points.{string_points_from, string_points, each, points, name_of}
 use Rattle.ibft_compare.specs.Differences.{nothing, differ_at, differing}
 use Rattle.ibft_compare.specs.Compare.{left_stretch, right_stretch, first_name, first_stretch}
-use Rattle.ibft_compare.specs.Walk.{named_pairs, points_in, unmet, counted, met_at, walked}
+use Rattle.ibft_compare.specs.Walk.{named_pairs, points_in, count_in, point_in, unmet, counted, met_at, walked}
 
 -- ---- the walk
 
@@ -228,15 +229,22 @@ strings-from p g k zero = refl
 strings-from p g k (suc n) = ap (λ (l : List Point). string_at p k (g k) ∷ l) (strings-from p g (suc k) n)
 
 module _ (p : Pair) (h : p.group < slot_count) where
-  pub fields-gather : field_points p ≡ gather (λ (n : ℕ). field_at p (kind_field (kind_of p.group) n) ∷ []) 0 (suc (length (kind_of p.group).fields))
+  fields-gather : field_points p ≡ gather (λ (n : ℕ). field_at p (kind_field (kind_of p.group) n) ∷ []) 0 (suc (length (kind_of p.group).fields))
   unfolding field_points
   fields-gather =
       ap (map (field_at p)) (tabulate-equal _ _ slot_count fields-are p.group h)
       ∙ map-gather (field_at p) (kind_field (kind_of p.group)) 0 (suc (length (kind_of p.group).fields))
 
-  pub strings-gather : string_points p ≡ gather (λ (j : ℕ). string_at p j (string_of (first_entry p.group + j)) ∷ []) 0
+  strings-gather : string_points p ≡ gather (λ (j : ℕ). string_at p j (string_of (first_entry p.group + j)) ∷ []) 0
       (length (kind_of p.group).string_fields)
   unfolding string_points
   strings-gather =
       ap (string_points_from p 0) (tabulate-equal _ _ slot_count strings-are p.group h)
       ∙ strings-from p (λ (j : ℕ). string_of (first_entry p.group + j)) 0 (length (kind_of p.group).string_fields)
+
+  -- the points of an aspect, by number
+  pub points-gather : (aspect : Aspect) → points_in aspect p ≡ gather (λ (n : ℕ). point_in aspect p n ∷ []) 0 (count_in aspect p)
+  unfolding points_in count_in point_in gather
+  points-gather Presence = refl
+  points-gather Fields = fields-gather
+  points-gather Strings = strings-gather

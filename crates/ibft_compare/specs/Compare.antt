@@ -1,10 +1,8 @@
 -- The comparing of two tables: the left one's refusal first, then the right one's; refused, nothing is listed and nothing
 -- shown. Assumes nothing: these are definitions.
-use Rattle.std.specs.Prelude.{ℕ, ◌+◌, List, [], ◌∷◌, cond, length, drop}
+use Rattle.std.specs.Prelude.{ℕ, ◌+◌, List, [], ◌∷◌, cond, length, drop, Ok, Err}
 use Rattle.octets.specs.Octets.{part}
-use Rattle.table_header.specs.Verdict.{refusal_of}
-use Rattle.table_header.specs.declared.verdict.Verdict.{Verdict}
-use Rattle.table_header.specs.declared.verdict.Verdict.TheVariants.{Accepted, Refused}
+use Rattle.table_header.specs.Verdict.{refusal_of, Verdict, Accepted, Refused}
 use Rattle.ibft_layout.specs.Layout.{Kind, control_at, flags_at, first_entry}
 use Rattle.ibft_table.specs.Table.{starts_of, start_in, present_in, holds_in, offset_in, size_in, offset_of}
 use Rattle.ibft_table.specs.Check.{check_of}
@@ -21,14 +19,14 @@ use Rattle.ibft_compare.specs.declared.difference.DifferenceReading.{DifferenceR
 
 -- the verdict on both
 unfoldable pub both_verdict : Verdict → Verdict → Verdict
-both_verdict Accepted right = right
-both_verdict (Refused e) right = Refused e
+both_verdict (Ok u) right = right
+both_verdict (Err e) right = Refused e
 
 -- whose refusal it is: 0 the left table's, 1 the right one's, 0 where there is none
 unfoldable pub side_of : Verdict → Verdict → ℕ
-side_of Accepted Accepted = 0
-side_of Accepted (Refused e) = 1
-side_of (Refused e) right = 0
+side_of (Ok u) (Ok v) = 0
+side_of (Ok u) (Err e) = 1
+side_of (Err e) right = 0
 
 unfoldable pub verdict_of : List ℕ → List ℕ → Verdict
 verdict_of left right = both_verdict (check_of left) (check_of right)
@@ -39,8 +37,8 @@ between a b = differing a b (points (pairs_of a b))
 
 -- of two tables
 unfoldable pub list_from : List ℕ → List ℕ → Verdict → List Point
-list_from left right Accepted = between (content_of left) (content_of right)
-list_from left right (Refused e) = []
+list_from left right (Ok u) = between (content_of left) (content_of right)
+list_from left right (Err e) = []
 
 unfoldable pub list_of : List ℕ → List ℕ → List Point
 list_of left right = list_from left right (verdict_of left right)

@@ -1,6 +1,5 @@
 -- The pairs and points, worked out, what differs between two records with extras, and what is shown of strings, by computation.
-use Rattle.std.specs.Prelude.{◌≡◌, refl, List, [], ◌∷◌, ◌++◌, map, Bool, true, cond, ◌&&◌, ◌||◌, ℕ, zero, suc, length, take, drop, get_or, eqb, ltb}
-use Rattle.std.proofs.Math.Option.{Option, none, some}
+use Rattle.std.specs.Prelude.{◌≡◌, refl, List, [], ◌∷◌, ◌++◌, map, Bool, true, cond, ◌&&◌, ◌||◌, ℕ, zero, suc, length, take, drop, get_or, eqb, ltb, Option, None, Some}
 use Rattle.octets.specs.Counting.{tabulate}
 use Rattle.octets.specs.Octets.{zeros}
 use Rattle.ibft_layout.specs.Layout.{kind_of, index_of, owner_of, named_count}
@@ -92,7 +91,7 @@ target name =
       flags = 0;
       structure = λ (k : ℕ). shown_if (eqb k 2) (zeros 29);
       index = λ (k : ℕ). cond (ltb k named_count) (index_of k) 0;
-      entry = λ (n : ℕ). cond (eqb n 3) name none;
+      entry = λ (n : ℕ). cond (eqb n 3) name None;
     }
 
 -- nothing present
@@ -102,9 +101,9 @@ bare =
       oem_id = zeros 6;
       oem_table_id = zeros 8;
       flags = 0;
-      structure = λ (k : ℕ). none;
+      structure = λ (k : ℕ). None;
       index = λ (k : ℕ). cond (ltb k named_count) (index_of k) 0;
-      entry = λ (n : ℕ). none;
+      entry = λ (n : ℕ). None;
     }
 
 -- all named structures and these extras, every byte of the OEM fields, the flags and the fields `b`, every string one such byte
@@ -132,20 +131,20 @@ names a b = map name_of (between a b)
 -- ---- what differs
 
 -- the same; another last byte; missing against empty, both ways
-same_name : names (target (some (97 ∷ 98 ∷ []))) (target (some (97 ∷ 98 ∷ []))) ≡ []
+same_name : names (target (Some (97 ∷ 98 ∷ []))) (target (Some (97 ∷ 98 ∷ []))) ≡ []
 unfolding computing target names
 same_name = refl
 
-another-byte : names (target (some (97 ∷ 98 ∷ []))) (target (some (97 ∷ 99 ∷ []))) ≡ Entry 4 0 38 ∷ []
+another-byte : names (target (Some (97 ∷ 98 ∷ []))) (target (Some (97 ∷ 99 ∷ []))) ≡ Entry 4 0 38 ∷ []
 unfolding computing target names
 another-byte = refl
 
-missing-and-empty : (names (target none) (target (some [])) ≡ Entry 4 0 38 ∷ []) × (names (target (some [])) (target none) ≡ Entry 4 0 38 ∷ [])
+missing-and-empty : (names (target None) (target (Some [])) ≡ Entry 4 0 38 ∷ []) × (names (target (Some [])) (target None) ≡ Entry 4 0 38 ∷ [])
 unfolding computing target names
 missing-and-empty = (refl, refl)
 
 -- a structure that only one table has: its contents and strings are not listed
-only-one : (names (target (some (97 ∷ []))) bare ≡ Presence 4 0 ∷ []) × (names bare (target (some (97 ∷ []))) ≡ Presence 4 0 ∷ [])
+only-one : (names (target (Some (97 ∷ []))) bare ≡ Presence 4 0 ∷ []) × (names bare (target (Some (97 ∷ []))) ≡ Presence 4 0 ∷ [])
 unfolding computing target bare names
 only-one = (refl, refl)
 
@@ -170,13 +169,13 @@ shown : Option (List ℕ) → Option (List ℕ) → List ℕ
 shown x y = (unequal_part 126 x y).start ∷ (unequal_part 126 x y).length ∷ []
 
 -- `abc` against `abd`, `xbc`, `ab`, `abcd`, none; none against `abc`; empty against none: where it starts, how many bytes
-shown-bytes : shown (some (97 ∷ 98 ∷ 99 ∷ [])) (some (97 ∷ 98 ∷ 100 ∷ []))
-    ∷ shown (some (97 ∷ 98 ∷ 99 ∷ [])) (some (120 ∷ 98 ∷ 99 ∷ []))
-    ∷ shown (some (97 ∷ 98 ∷ 99 ∷ [])) (some (97 ∷ 98 ∷ []))
-    ∷ shown (some (97 ∷ 98 ∷ 99 ∷ [])) (some (97 ∷ 98 ∷ 99 ∷ 100 ∷ []))
-    ∷ shown (some (97 ∷ 98 ∷ 99 ∷ [])) none
-    ∷ shown none (some (97 ∷ 98 ∷ 99 ∷ []))
-    ∷ shown (some []) none
+shown-bytes : shown (Some (97 ∷ 98 ∷ 99 ∷ [])) (Some (97 ∷ 98 ∷ 100 ∷ []))
+    ∷ shown (Some (97 ∷ 98 ∷ 99 ∷ [])) (Some (120 ∷ 98 ∷ 99 ∷ []))
+    ∷ shown (Some (97 ∷ 98 ∷ 99 ∷ [])) (Some (97 ∷ 98 ∷ []))
+    ∷ shown (Some (97 ∷ 98 ∷ 99 ∷ [])) (Some (97 ∷ 98 ∷ 99 ∷ 100 ∷ []))
+    ∷ shown (Some (97 ∷ 98 ∷ 99 ∷ [])) None
+    ∷ shown None (Some (97 ∷ 98 ∷ 99 ∷ []))
+    ∷ shown (Some []) None
     ∷ []
     ≡ (128 ∷ 1 ∷ []) ∷ (126 ∷ 3 ∷ []) ∷ (128 ∷ 1 ∷ []) ∷ (129 ∷ 0 ∷ []) ∷ (126 ∷ 3 ∷ []) ∷ (0 ∷ 0 ∷ []) ∷ (126 ∷ 0 ∷ []) ∷ []
 unfolding computing shown

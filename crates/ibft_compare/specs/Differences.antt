@@ -1,6 +1,5 @@
 -- Whether two records differ at a point, and what is shown for it from the left table. Assumes nothing: these are definitions.
-use Rattle.std.specs.Prelude.{ℕ, ◌+◌, ◌-◌, min, List, [], ◌∷◌, Bool, true, false, cond, not, ◌&&◌, length, eqb}
-use Rattle.std.proofs.Math.Option.{Option, none, some}
+use Rattle.std.specs.Prelude.{ℕ, ◌+◌, ◌-◌, min, List, [], ◌∷◌, Bool, true, false, cond, not, ◌&&◌, length, eqb, Option, None, Some}
 use Rattle.octets.specs.Counting.{first}
 use Rattle.octets.specs.Octets.{byte, part, differs}
 use Rattle.ibft_layout.specs.Layout.{Field, flags_at, first_entry}
@@ -18,23 +17,23 @@ unequal a b = not (eqb (length a) (length b) && eqb (first_unequal a b) (length 
 
 -- only one table has the structure
 unfoldable pub in_one : Option (List ℕ) → Option (List ℕ) → Bool
-in_one none none = false
-in_one none (some y) = true
-in_one (some x) none = true
-in_one (some x) (some y) = false
+in_one None None = false
+in_one None (Some y) = true
+in_one (Some x) None = true
+in_one (Some x) (Some y) = false
 
 -- both have it, and this field differs; flags and fields are the bytes from 5 on
 unfoldable pub field_differs : Field → Option (List ℕ) → Option (List ℕ) → Bool
-field_differs f none y = false
-field_differs f (some x) none = false
-field_differs f (some x) (some y) = unequal (part x (f.at - flags_at) f.width) (part y (f.at - flags_at) f.width)
+field_differs f None y = false
+field_differs f (Some x) None = false
+field_differs f (Some x) (Some y) = unequal (part x (f.at - flags_at) f.width) (part y (f.at - flags_at) f.width)
 
 -- a string: missing against empty is a difference
 unfoldable pub string_differs : Option (List ℕ) → Option (List ℕ) → Bool
-string_differs none none = false
-string_differs none (some y) = true
-string_differs (some x) none = true
-string_differs (some x) (some y) = unequal x y
+string_differs None None = false
+string_differs None (Some y) = true
+string_differs (Some x) None = true
+string_differs (Some x) (Some y) = unequal x y
 
 -- what each of the two records has of a pair: its flags and fields, its j-th string
 abbrev pub left_of : Content → Pair → Option (List ℕ)
@@ -74,9 +73,9 @@ nothing = stretch 0 0
 
 -- of the left string x, which stands at `at`: from the first unequal byte to its end; all of it where the right one is missing
 unfoldable pub unequal_part : ℕ → Option (List ℕ) → Option (List ℕ) → Stretch
-unequal_part at none y = nothing
-unequal_part at (some x) none = stretch at (length x)
-unequal_part at (some x) (some y) = stretch (at + first_unequal x y) (length x - first_unequal x y)
+unequal_part at None y = nothing
+unequal_part at (Some x) None = stretch at (length x)
+unequal_part at (Some x) (Some y) = stretch (at + first_unequal x y) (length x - first_unequal x y)
 
 -- at this point, where entry n of the left table stands at `at n`
 unfoldable pub shown_at : (ℕ → ℕ) → Content → Content → Point → Stretch

@@ -3,7 +3,7 @@
 use Rattle.std.specs.Prelude.{◌≡◌, ◌↔◌, List, [], ◌∷◌, map, ℕ, ◌<◌}
 use Rattle.std.specs.Borrow.{Bor}
 use Rattle.octets.specs.View.{Shows}
-use Rattle.table_header.specs.declared.verdict.Verdict.TheVariants.{Accepted}
+use Rattle.table_header.specs.Verdict.{Accepted}
 use Rattle.ibft_table.specs.Check.{check_of}
 use Rattle.ibft_table.specs.Record.{record_of}
 use Rattle.ibft_compare.specs.Points.{name_of, turn_of}

@@ -1,13 +1,13 @@
 -- What the functions inside say: a walk along points, in which the differences are counted and the one asked for is kept.
 -- Callers need none of it. Assumes nothing: these are definitions.
-use Rattle.std.specs.Prelude.{ℕ, ◌+◌, ◌-◌, ◌≤◌, ◌<◌, ◌≡◌, ◌⊎◌, List, [], ◌∷◌, Bool, true, false, cond, not, get_or, eqb}
+use Rattle.std.specs.Prelude.{ℕ, suc, ◌+◌, ◌-◌, ◌≤◌, ◌<◌, ◌≡◌, ◌⊎◌, List, [], ◌∷◌, Bool, true, false, cond, not, length, get_or, eqb}
 use Rattle.octets.specs.Counting.{tabulate}
 use Rattle.octets.specs.Octets.{part}
-use Rattle.ibft_layout.specs.Layout.{kind_of, slot_count, named_count, extra_most, extra_nics, extra_targets}
+use Rattle.ibft_layout.specs.Layout.{kind_of, kind_field, string_of, first_entry, slot_count, named_count, extra_most, extra_nics, extra_targets}
 use Rattle.ibft_table.specs.Table.{starts_of, index_in}
 use Rattle.ibft_table.specs.Record.{content_of}
-use Rattle.ibft_compare.specs.Pairs.{named_pair}
-use Rattle.ibft_compare.specs.Points.{Point, presence, field_points, string_points, name_of}
+use Rattle.ibft_compare.specs.Pairs.{kind_in, named_pair}
+use Rattle.ibft_compare.specs.Points.{Point, presence, field_at, string_at, field_points, string_points, name_of}
 use Rattle.ibft_compare.specs.Differences.{first_unequal, differ_at, stretch, nothing}
 use Rattle.ibft_compare.specs.Compare.{left_stretch, right_stretch}
 use Rattle.ibft_compare.specs.declared.difference.Difference.{Difference}
@@ -17,10 +17,6 @@ use Rattle.ibft_compare.specs.declared.pair.Pair.{Pair}
 use Rattle.ibft_compare.specs.declared.walk.Aspect.{Aspect}
 use Rattle.ibft_compare.specs.declared.walk.Aspect.TheVariants.{Presence, Fields, Strings}
 use Rattle.ibft_compare.specs.declared.walk.Met.{Met}
-
--- ls and rs are the starts by slot of the tables
-abbrev pub Starts : List ℕ → List ℕ → List ℕ → List ℕ → Type 0
-Starts left ls right rs = (ls ≡ starts_of left) × (rs ≡ starts_of right)
 
 -- only one of the two holds
 unfoldable pub only_one : Bool → Bool → Bool
@@ -52,11 +48,26 @@ ExtraGroup group = (group ≡ extra_nics) ⊎ (group ≡ extra_targets)
 abbrev pub NoneBetween : List ℕ → ℕ → ℕ → ℕ → Type 0
 NoneBetween indices group after next = (i : ℕ) → i < extra_most → after < get_or indices (group + i) 0 → next ≤ get_or indices (group + i) 0
 
+-- no byte of the string lies between the two
+abbrev pub NoneAbove : List ℕ → ℕ → ℕ → Type 0
+NoneAbove s after next = (i : ℕ) → i < length s → after < get_or s i 0 → next ≤ get_or s i 0
+
 -- what is walked along: the presence of a pair, or its flags and fields, or its strings
 unfoldable pub points_in : Aspect → Pair → List Point
 points_in Presence p = presence p ∷ []
 points_in Fields p = field_points p
 points_in Strings p = string_points p
+
+-- how many points those are, and the n-th of them
+unfoldable pub count_in : Aspect → Pair → ℕ
+count_in Presence p = 1
+count_in Fields p = suc (length (kind_in p).fields)
+count_in Strings p = length (kind_in p).string_fields
+
+unfoldable pub point_in : Aspect → Pair → ℕ → Point
+point_in Presence p n = presence p
+point_in Fields p n = field_at p (kind_field (kind_in p) n)
+point_in Strings p n = string_at p n (string_of (first_entry p.group + n))
 
 -- nothing is met yet, and difference `wanted` is asked for
 abbrev pub unmet : ℕ → Met

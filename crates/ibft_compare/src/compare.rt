@@ -6,14 +6,15 @@ ghost use Rattle.ibft_compare.specs.Compare.{verdict_of, side_of, difference_of}
 ghost use Rattle.ibft_compare.specs.Walk.{part_shown, shown_by};
 ghost use Rattle.ibft_compare.specs.Promises.{Compares, DifferenceView};
 
-use crate::difference::{Compared, Difference, DifferenceReading, Stretch};
+use crate::difference::{Compared, Difference, DifferenceReading, Stretch, no_stretch};
 use crate::unequal::first_unequal;
-use crate::walk::{meet_all, no_stretch};
+use crate::walk::meet_all;
 use ibft_table::check::check;
 use octets::read::part;
 use table_header::verdict::{ACCEPTED, Verdict};
 
 // The verdict on two tables, the left one's refusal first, and whose it is.
+// (The side stands beside it, since `Compared` and `DifferenceReading` have one in every case.)
 #[derive(Clone, Copy)]
 struct Judged {
     verdict: Verdict,
@@ -25,13 +26,13 @@ fn judge(left: &[u8], right: &[u8]) -> Judged
         × (result.side ≡ side_of (check_of left.now) (check_of right.now)) }
 {
     let verdict = check(left);
-    if let Verdict::Refused(_) = verdict {
+    if let Err(_) = verdict {
         return Judged { verdict, side: 0 };
     }
     let verdict = check(right);
     match verdict {
-        Verdict::Accepted => Judged { verdict, side: 0 },
-        Verdict::Refused(_) => Judged { verdict, side: 1 },
+        Ok(()) => Judged { verdict, side: 0 },
+        Err(_) => Judged { verdict, side: 1 },
     }
 }
 
@@ -43,12 +44,12 @@ pub fn compare(left: &[u8], right: &[u8]) -> Compared
     let side = judged.side;
     let verdict = judged.verdict;
     match verdict {
-        Verdict::Accepted => Compared {
+        Ok(()) => Compared {
             refusal: ACCEPTED,
             side,
             count: meet_all(left, right, 0).count,
         },
-        Verdict::Refused(refusal) => Compared {
+        Err(refusal) => Compared {
             refusal,
             side,
             count: 0,
@@ -96,7 +97,7 @@ pub fn difference(left: &[u8], right: &[u8], k: u16) -> DifferenceReading
     let side = judged.side;
     let verdict = judged.verdict;
     match verdict {
-        Verdict::Accepted => {
+        Ok(()) => {
             let met = meet_all(left, right, k);
             let difference = met.difference;
             let l = met.left;
@@ -111,7 +112,7 @@ pub fn difference(left: &[u8], right: &[u8], k: u16) -> DifferenceReading
                 shown,
             }
         }
-        Verdict::Refused(refusal) => DifferenceReading {
+        Err(refusal) => DifferenceReading {
             refusal,
             side,
             difference: Difference::Nothing,

@@ -1,4 +1,7 @@
 // A difference between two tables, by meaning.
+ghost use Rattle.std.specs.Prelude.{◌≡◌};
+ghost use Rattle.ibft_compare.specs.Differences.{nothing};
+
 use table_header::verdict::Refusal;
 
 // What differs. A structure is named by its kind's ID and its Index; a field of it, and an entry, also by where it stands in
@@ -22,7 +25,18 @@ pub struct Stretch {
     pub length: u16,
 }
 
+// No stretch.
+pub(crate) fn no_stretch() -> Stretch
+    ensures { result ≡ nothing }
+{
+    Stretch {
+        start: 0,
+        length: 0,
+    }
+}
+
 // How many differences two tables have; or the refusal, and whose it is: 0 the left table's, 1 the right one's.
+// (No Result: the definitions give a refused comparison the count 0, and the exports for C hand out each number.)
 #[derive(Clone, Copy)]
 pub struct Compared {
     pub refusal: Refusal,

@@ -4,5 +4,6 @@
 pub mod compare;
 pub mod difference;
 mod pair;
+mod table;
 mod unequal;
 mod walk;

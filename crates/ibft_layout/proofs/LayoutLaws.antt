@@ -1,8 +1,9 @@
 -- Laws of the layout's data, for code that knows them number by number or by arithmetic.
 --     last_arm                          the last arm of a `match`, that of number 0 and of what is past the last number
+--     rows                              two tables that have the same rows from one on
 --     kind-past, index-past             past the last slot stands slot 0
 --     kind-nic, kind-target, kind-other the kind of a slot, by its ID
---     field_row, field_past             the fields of a kind, by number
+--     field_past                        past the last field of a kind stand its flags
 --     nic-past, target_past             past the last NIC and target stands no slot
 --     owner-extra, string-extra         the entries of extras, by arithmetic
 --     owner-past, string-past           past the last entry stands one of no slot
@@ -21,13 +22,12 @@ use borrow.Author.Tests.{le-ltb, ltb-true, lt-leb, le-leb, leb-true, ne_eqb}
 use lib.ListN.{length, get_or, get_or-eq_default}
 use lib.Dec.{eqb, ltb, leb}
 use Rattle.octets.specs.Counting.{sum_to, tabulate}
-use Rattle.octets.proofs.CountingLaws.{tabulate-equal}
+use Rattle.octets.proofs.CountingLaws.{tabulate-equal, get_d-tabulate-from}
 use Rattle.ibft_layout.specs.Layout.{StringField, Kind, EntryLayout, string, nic, target, kinds, initiator, kind_of, fields_of}
 use Rattle.ibft_layout.specs.Layout.{kind_field, first_entry, indices, index_of, slot_count, named_count, extra_nics, extra_targets}
 use Rattle.ibft_layout.specs.Layout.{nic_slots, nic_slot, target_slots, target_slot, entry_count, named_entries, entries_of, entries_from}
 use Rattle.ibft_layout.specs.Layout.{entry_layout, owner_of, string_of, target_entries, target_strings}
 use Rattle.ibft_layout.specs.Shapes.{field_shape}
-use Rattle.ibft_layout.specs.declared.shape.FieldShape.{FieldShape}
 
 -- n is none of 1 to k, as the last arm has it
 abbrev NoneOf : ℕ → ℕ → Type 0
@@ -48,6 +48,13 @@ last_arm f k n none past =
       | yes l ↦ sym (ap f (none-of-zero n k none l))
       | no l ↦ sym (past (omega arith))
     ]
+
+-- f and g have the same rows from row low on
+pub rows {ℓ} : {A : Type ℓ} (f g : ℕ → A) (low count : ℕ) → tabulate f low count ≡ tabulate g low count → (n : ℕ) → low ≤ n → n < low + count → f n ≡ g n
+rows f g low count e n from to =
+    let here : low + (n - low) ≡ n = omega arith in
+    sym (get_d-tabulate-from f low count (n - low) (f n) (omega arith) ∙ ap f here)
+    ∙ ap (λ l. get_or l (n - low) (f n)) e ∙ get_d-tabulate-from g low count (n - low) (f n) (omega arith) ∙ ap g here
 
 pub kind-past : (k : ℕ) → slot_count ≤ k → kind_of k ≡ kind_of 0
 unfolding kind_of
@@ -84,10 +91,6 @@ kind-target k e = sym (kind-by k ∙ ap kind_by e)
 pub kind-other : (k : ℕ) → ((kind_of k).id ≡ 3 → ⊥) → ((kind_of k).id ≡ 4 → ⊥) → initiator ≡ kind_of k
 unfolding kind_by
 kind-other k a b = sym (kind-by k ∙ rw (ne_eqb (kind_of k).id 3 a, ne_eqb (kind_of k).id 4 b))
-
--- field m of a kind, where n is m
-pub field_row : (kind : Kind) (m n : ℕ) (r : FieldShape) → r ≡ field_shape (kind_field kind m) → n ≡ m → r ≡ field_shape (kind_field kind n)
-field_row kind m n r e same = e ∙ ap (λ (i : ℕ). field_shape (kind_field kind i)) (sym same)
 
 pub field_past : (kind : Kind) (n : ℕ) → length (fields_of kind) ≤ n → field_shape (kind_field kind n) ≡ field_shape (kind_field kind 0)
 unfolding kind_field

@@ -43,19 +43,16 @@ impl Initiator {
     };
 
     // What the layout knows of the kind.
-    pub(crate) fn shape() -> Shape
-        ensures { result ≡ shape_of initiator }
-    {
-        Shape {
-            id: Self::ID,
-            version: Self::VERSION,
-            length: Self::LENGTH,
-            reserved: Self::RESERVED,
-            chap: false,
-        }
-    }
+    pub(crate) const SHAPE: Shape = Shape {
+        id: Self::ID,
+        version: Self::VERSION,
+        length: Self::LENGTH,
+        reserved: Self::RESERVED,
+        chap: false,
+    };
 
     // Field n of an initiator: its flags, then those behind them, then the two words of each string; past the last, its flags.
+    #[tactic(auto, unfolding(crate::specs::Layout::kind_field))]
     pub(crate) fn field(n: u8) -> FieldShape
         ensures { result ≡ field_shape (kind_field initiator n) }
     {

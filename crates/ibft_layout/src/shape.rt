@@ -17,14 +17,8 @@ impl Shape {
     pub fn start(self, index: u8) -> [u8; 5]
         ensures { result ≡ shape_start self index }
     {
-        let size = self.length;
-        [
-            self.id,
-            self.version,
-            (size % 256) as u8,
-            (size / 256 % 256) as u8,
-            index,
-        ]
+        let [low, high] = self.length.to_le_bytes();
+        [self.id, self.version, low, high, index]
     }
 }
 

@@ -85,19 +85,16 @@ impl Target {
     pub const SELECTED: u8 = 2;
 
     // What the layout knows of the kind.
-    pub fn shape() -> Shape
-        ensures { result ≡ shape_of target }
-    {
-        Shape {
-            id: Self::ID,
-            version: Self::VERSION,
-            length: Self::LENGTH,
-            reserved: Self::RESERVED,
-            chap: true,
-        }
-    }
+    pub const SHAPE: Shape = Shape {
+        id: Self::ID,
+        version: Self::VERSION,
+        length: Self::LENGTH,
+        reserved: Self::RESERVED,
+        chap: true,
+    };
 
     // Field n of a target: its flags, then those behind them, then the two words of each string; past the last, its flags.
+    #[tactic(auto, unfolding(crate::specs::Layout::kind_field))]
     pub(crate) fn field(n: u8) -> FieldShape
         ensures { result ≡ field_shape (kind_field target n) }
     {

@@ -20,7 +20,7 @@ use Rattle.octets.specs.Octets.{differs}
 use Rattle.octets.proofs.CountingLaws.{length-tabulate, get_d_tabulate, gather-last}
 use Rattle.ibft_layout.specs.Layout.{target_count}
 use Rattle.ibft_readings.specs.Login.{valid, chosen, target_index, order_in, placed}
-use Rattle.table_header.specs.declared.verdict.Verdict.{Verdict}
+use Rattle.table_header.specs.Verdict.{Verdict}
 use Rattle.ibft_readings.specs.declared.login.LoginOrder.{LoginOrder}
 
 length-cond : (b : Bool) (n : ℕ) → length (cond b (n ∷ []) []) ≤ 1

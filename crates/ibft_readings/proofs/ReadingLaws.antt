@@ -6,6 +6,7 @@
 --     view-stretch                     an entry's view is the stretch that its reading gives, none where that is refused
 --     entry-within                     this stretch starts within the bytes lent
 -- Assumes nothing.
+use Rattle.std.specs.Prelude.{Ok, Err}
 use mathlib.Core.Path.{◌≡◌, refl, sym, ap, ◌∙◌}
 use mathlib.Core.Logic.{◌⊎◌, inl, inr, ⊎_elim}
 use mathlib.Core.List.{List, [], ◌∷◌, ◌++◌}
@@ -21,7 +22,7 @@ use Rattle.octets.specs.Octets.{part, differs}
 use Rattle.octets.proofs.CountingLaws.{clash}
 use Rattle.octets.proofs.TestLaws.{or-both}
 use Rattle.ibft_layout.specs.Layout.{entry_count, slot_count, named_count, ibft_signature, control_at, least_length}
-use Rattle.table_header.specs.Verdict.{Test, refuse, first_of, refusal_of, shown}
+use Rattle.table_header.specs.Verdict.{Test, refuse, first_of, refusal_of, shown, Verdict, Accepted}
 use Rattle.table_header.specs.Header.{length_of, header_tests}
 use Rattle.ibft_table.specs.Table.{control_end_of, word_count, extra_words, start_at, used_at, starts_to, starts_of, start_in, present_in, size_in, offset_in, holds_in}
 use Rattle.ibft_table.specs.Check.{control_tests, misplaced, named_tests, extra_tests, flag_tests, word_tests, overlap_tests, entry_tests, check_tests, check_of}
@@ -29,8 +30,6 @@ use Rattle.ibft_readings.specs.Readings.{slot_called, slot_verdict, structure_in
 use Rattle.ibft_readings.specs.Readings.{structure_view_got, structure_view_of, entry_called, entry_verdict, entry_from, entry_got, entry_of}
 use Rattle.ibft_readings.specs.Readings.{view_got, view_of}
 use Rattle.table_header.specs.declared.verdict.Refusal.{Refusal}
-use Rattle.table_header.specs.declared.verdict.Verdict.{Verdict}
-use Rattle.table_header.specs.declared.verdict.Verdict.TheVariants.{Accepted, Refused}
 use Rattle.ibft_layout.proofs.LayoutLaws.{owner-past}
 use Rattle.ibft_table.proofs.SeatLaws.{starts-length, starts-below}
 use Rattle.table_header.proofs.VerdictLaws.{append-go, passes, append-passes, gather-passes, Every, every-none, every-next, every_append}
@@ -159,8 +158,8 @@ module _ (t : List ℕ) where
   pub reading-accepted : (beyond missing : Bool) (v : Verdict) → first_of (check_tests t ++ (refuse 23 0 beyond ∷ refuse 22 0 missing ∷ [])) ≡ v
       → (refusal_of v).number ≡ 0 → v ≡ Accepted
   unfolding refusal_of
-  reading-accepted beyond missing Accepted e zero = refl
-  reading-accepted beyond missing (Refused r) e zero =
+  reading-accepted beyond missing (Ok u) e zero = refl
+  reading-accepted beyond missing (Err r) e zero =
       let numbered = every_append check-numbered
       (every-next {t = refuse 23 0 beyond} (omega arith) (every-next {t = refuse 22 0 missing} (omega arith) every-none)) in
       absurd (omega (arith, every_first numbered r e))
@@ -176,8 +175,8 @@ module _ (t : List ℕ) (number : ℕ) where
 
   refusal-from : (v : Verdict) → (structure_from (starts_of t) t slot v).refusal ≡ refusal_of v
   unfolding structure_from refusal_of
-  refusal-from Accepted = refl
-  refusal-from (Refused r) = refl
+  refusal-from (Ok u) = refl
+  refusal-from (Err r) = refl
 
   pub slot-accepted : (structure_of t number).refusal.number ≡ 0 → slot_judged ≡ Accepted
   unfolding structure_of structure_got slot_verdict
@@ -186,8 +185,8 @@ module _ (t : List ℕ) (number : ℕ) where
   -- refused, nothing is shown
   none_from : (v : Verdict) → ((structure_from (starts_of t) t slot v).refusal.number ≡ 0 → ⊥) → structure_in (starts_of t) t v slot ≡ []
   unfolding structure_from structure_in shown refusal_of
-  none_from Accepted h = absurd (h refl)
-  none_from (Refused r) h = refl
+  none_from (Ok u) h = absurd (h refl)
+  none_from (Err r) h = refl
 
   pub structure-hidden : ((structure_of t number).refusal.number ≡ 0 → ⊥) → structure_view_of t number ≡ []
   unfolding structure_of structure_got structure_view_of structure_view_got
@@ -217,8 +216,8 @@ module _ (t : List ℕ) (number : ℕ) where
       (entry_from (starts_of t) t called v).length
       ≡ shown v (part t (offset_in (starts_of t) t called) (size_in (starts_of t) t called))
   unfolding entry_from shown part
-  stretch-from Accepted = refl
-  stretch-from (Refused r) = refl
+  stretch-from (Ok u) = refl
+  stretch-from (Err r) = refl
 
   pub view-stretch : part t (entry_of t number).offset (entry_of t number).length ≡ view_of t number
   unfolding entry_of entry_got view_of view_got
@@ -227,8 +226,8 @@ module _ (t : List ℕ) (number : ℕ) where
   -- a refused reading gives no length
   length_from : (v : Verdict) → ((entry_from (starts_of t) t called v).refusal.number ≡ 0) ⊎ ((entry_from (starts_of t) t called v).length ≡ 0)
   unfolding entry_from refusal_of
-  length_from Accepted = inl refl
-  length_from (Refused r) = inr refl
+  length_from (Ok u) = inl refl
+  length_from (Err r) = inr refl
 
   pub refused-length : ((entry_of t number).refusal.number ≡ 0) ⊎ ((entry_of t number).length ≡ 0)
   unfolding entry_of entry_got
@@ -243,8 +242,8 @@ module _ (t : List ℕ) (number : ℕ) where
 
   offset-from : (v : Verdict) → verdict ≡ v → (entry_from (starts_of t) t called v).offset ≤ length t
   unfolding entry_from entry_verdict check_of
-  offset-from (Refused r) e = omega arith
-  offset-from Accepted e =
+  offset-from (Err r) e = omega arith
+  offset-from (Ok u) e =
       let beyond = refuse 23 0 (leb entry_count number) in
       let missing = refuse 22 0 (not (holds_in (starts_of t) t called)) in
       let both = append-passes (check_tests t) (beyond ∷ missing ∷ []) e in

@@ -1,14 +1,12 @@
 -- The login order. Assumes nothing: these are definitions.
-use Rattle.std.specs.Prelude.{ℕ, ◌+◌, List, [], ◌∷◌, ◌++◌, Bool, cond, ◌&&◌, length, get_or, ltb}
+use Rattle.std.specs.Prelude.{ℕ, ◌+◌, List, [], ◌∷◌, ◌++◌, Bool, cond, ◌&&◌, length, get_or, ltb, Ok, Err}
 use Rattle.std.specs.Int.Bits.{bit_and}
 use Rattle.octets.specs.Counting.{first, tabulate, gather}
 use Rattle.octets.specs.Octets.{byte, differs}
 use Rattle.ibft_layout.specs.Layout.{target_slot, target_count}
-use Rattle.table_header.specs.Verdict.{refusal_of}
+use Rattle.table_header.specs.Verdict.{refusal_of, Verdict, Accepted, Refused}
 use Rattle.ibft_table.specs.Table.{starts_of, start_in, present_in, index_in}
 use Rattle.ibft_table.specs.Check.{check_of}
-use Rattle.table_header.specs.declared.verdict.Verdict.{Verdict}
-use Rattle.table_header.specs.declared.verdict.Verdict.TheVariants.{Accepted, Refused}
 use Rattle.ibft_readings.specs.declared.login.LoginOrder.{LoginOrder}
 
 -- a flag byte has this bit (1, 2, 4, ..) set
@@ -51,8 +49,8 @@ placed v order =
     record { refusal = refusal_of v; used = length order; places = tabulate (λ (i : ℕ). get_or order i 255) 0 target_count }
 
 unfoldable pub login_from : List ℕ → Verdict → LoginOrder
-login_from t Accepted = placed Accepted (order_of t)
-login_from t (Refused r) = placed (Refused r) []
+login_from t (Ok u) = placed Accepted (order_of t)
+login_from t (Err r) = placed (Refused r) []
 
 unfoldable pub login_order_of : List ℕ → LoginOrder
 login_order_of t = login_from t (check_of t)

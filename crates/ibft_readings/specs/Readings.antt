@@ -1,14 +1,12 @@
 -- Readings of a table: the check, then 23, then 22; refused, a view is empty and every field is 0.
 -- Assumes nothing: these are definitions.
-use Rattle.std.specs.Prelude.{ℕ, ◌+◌, ◌/◌, ◌%◌, List, [], ◌∷◌, ◌++◌, cond, not, ◌&&◌, drop, leb, eqb}
+use Rattle.std.specs.Prelude.{ℕ, ◌+◌, ◌/◌, ◌%◌, List, [], ◌∷◌, ◌++◌, cond, not, ◌&&◌, drop, leb, eqb, Ok, Err}
 use Rattle.octets.specs.Octets.{byte, word16, word64, part, bytes_at, all_zero}
 use Rattle.ibft_layout.specs.Layout.{kind_of, slot_count, entry_count, nic_slot, target_slot, slot_at, entry_at}
 use Rattle.ibft_layout.specs.Shapes.{string_words_at}
-use Rattle.table_header.specs.Verdict.{refuse, first_of, refusal_of, shown}
+use Rattle.table_header.specs.Verdict.{refuse, first_of, refusal_of, shown, Verdict, Accepted}
 use Rattle.ibft_table.specs.Table.{starts_of, start_in, present_in, index_in, nics_in, size_in, offset_in, holds_in}
 use Rattle.ibft_table.specs.Check.{check_tests, check_of}
-use Rattle.table_header.specs.declared.verdict.Verdict.{Verdict}
-use Rattle.table_header.specs.declared.verdict.Verdict.TheVariants.{Accepted, Refused}
 use Rattle.ibft_layout.specs.declared.control.Control.{Control}
 use Rattle.ibft_layout.specs.declared.header.Header.{Header}
 use Rattle.ibft_layout.specs.declared.initiator.Initiator.{Initiator}
@@ -116,12 +114,12 @@ structure_in starts t v k = shown v (drop (start_in starts k) t)
 
 -- its Index; 0 where its reading is refused
 unfoldable pub index_shown : List ℕ → List ℕ → Verdict → ℕ → ℕ
-index_shown starts t Accepted k = index_in starts t k
-index_shown starts t (Refused r) k = 0
+index_shown starts t (Ok u) k = index_in starts t k
+index_shown starts t (Err r) k = 0
 
 -- its kind as its ID, its Index, its start, its flags
 unfoldable pub structure_from : List ℕ → List ℕ → ℕ → Verdict → StructureReading
-structure_from starts t k Accepted =
+structure_from starts t k (Ok u) =
     record {
       refusal = refusal_of Accepted;
       id = (kind_of k).id;
@@ -129,7 +127,7 @@ structure_from starts t k Accepted =
       start = start_in starts k;
       flags = byte t (start_in starts k + 5);
     }
-structure_from starts t k (Refused r) = record { refusal = r; id = 0; index = 0; start = 0; flags = 0 }
+structure_from starts t k (Err r) = record { refusal = r; id = 0; index = 0; start = 0; flags = 0 }
 
 unfoldable pub structure_got : List ℕ → List ℕ → ℕ → StructureReading
 structure_got starts t number =
@@ -178,8 +176,8 @@ entry_verdict starts t number n =
 
 -- where it stands
 unfoldable pub entry_from : List ℕ → List ℕ → ℕ → Verdict → EntryReading
-entry_from starts t n Accepted = record { refusal = refusal_of Accepted; offset = offset_in starts t n; length = size_in starts t n }
-entry_from starts t n (Refused r) = record { refusal = r; offset = 0; length = 0 }
+entry_from starts t n (Ok u) = record { refusal = refusal_of Accepted; offset = offset_in starts t n; length = size_in starts t n }
+entry_from starts t n (Err r) = record { refusal = r; offset = 0; length = 0 }
 
 unfoldable pub entry_got : List ℕ → List ℕ → ℕ → EntryReading
 entry_got starts t number = entry_from starts t (entry_called starts number) (entry_verdict starts t number (entry_called starts number))

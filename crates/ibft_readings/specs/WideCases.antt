@@ -9,9 +9,7 @@ use Rattle.ibft_table.specs.Record.{record_of}
 use Rattle.ibft_readings.specs.Readings.{structure_of, nic_of, target_of}
 use Rattle.ibft_readings.specs.Login.{login_order_of}
 use Rattle.ibft_readings.specs.Computing.{computing}
-use Rattle.table_header.specs.Verdict.{refusal, accepted}
-use Rattle.table_header.specs.declared.verdict.Verdict.{Verdict}
-use Rattle.table_header.specs.declared.verdict.Verdict.TheVariants.{Accepted, Refused}
+use Rattle.table_header.specs.Verdict.{refusal, accepted, Verdict, Accepted, Refused}
 
 -- a table of n bytes with three extra words, nothing present
 blank : ℕ → List ℕ

@@ -4,12 +4,14 @@ ghost use Rattle.ibft_readings.specs.Readings.{entry_verdict, entry_of};
 ghost use Rattle.ibft_readings.specs.Promises.{EntryView};
 
 use crate::reading::verdict_of;
+use crate::slots::Slots;
 use ibft_layout::layout::ENTRY_COUNT;
-use ibft_table::seats::starts_of;
 use ibft_table::starts::{entry_at, holds_entry, string_words_at};
 use octets::read::{part, u16_at};
 use table_header::verdict::{ACCEPTED, Refusal, Verdict};
 
+// (Fields beside a refusal, here and in the other readings, and no Result: the promises of specs/ and the exports for C give a
+// refused reading with every field 0.)
 #[derive(Clone, Copy)]
 pub struct EntryReading {
     pub refusal: Refusal,
@@ -17,29 +19,35 @@ pub struct EntryReading {
     pub length: u16,
 }
 
-// The verdict of a reading of entry n, asked for by this number.
-fn entry_verdict(starts: &[u16], t: &[u8], number: u8, n: u16) -> Verdict
-    ensures { result ≡ entry_verdict starts.now t.now number n }
-{
-    verdict_of(t, ENTRY_COUNT <= number, !holds_entry(starts, t, n))
+impl<'a> Slots<'a> {
+    // The verdict of a reading of entry n, asked for by this number.
+    fn entry_verdict(&self, number: u8, n: u16) -> Verdict
+        ensures { result ≡ entry_verdict self.now.starts self.now.t.now number n }
+    {
+        verdict_of(
+            self.t,
+            ENTRY_COUNT <= number,
+            !holds_entry(&self.starts, self.t, n),
+        )
+    }
 }
 
 // Where the entry that callers call `number` stands in the table.
 pub fn read_entry(t: &[u8], number: u8) -> EntryReading
     ensures { result ≡ entry_of t.now number }
 {
-    let starts = starts_of(t);
-    let n = entry_at(&starts, number);
-    match entry_verdict(&starts, t, number, n) {
-        Verdict::Accepted => {
-            let field = string_words_at(&starts, n) as usize;
+    let slots = Slots::of(t);
+    let n = entry_at(&slots.starts, number);
+    match slots.entry_verdict(number, n) {
+        Ok(()) => {
+            let field = string_words_at(&slots.starts, n) as usize;
             EntryReading {
                 refusal: ACCEPTED,
                 offset: u16_at(t, field + 2),
                 length: u16_at(t, field),
             }
         }
-        Verdict::Refused(refusal) => EntryReading {
+        Err(refusal) => EntryReading {
             refusal,
             offset: 0,
             length: 0,

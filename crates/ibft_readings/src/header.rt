@@ -5,7 +5,7 @@ ghost use Rattle.ibft_readings.specs.Readings.{header_in, header_of};
 use crate::control::control_of;
 use ibft_layout::header::Header;
 use ibft_table::check::check;
-use octets::read::{eight_at, six_at};
+use octets::read::array_at;
 use table_header::header::{OEM_ID_AT, OEM_TABLE_ID_AT};
 use table_header::verdict::{Refusal, refusal_of, shown_of};
 
@@ -14,8 +14,8 @@ fn header_in(t: &[u8]) -> Header
     ensures { result ≡ header_in t.now }
 {
     Header {
-        oem_id: six_at(t, OEM_ID_AT as usize),
-        oem_table_id: eight_at(t, OEM_TABLE_ID_AT as usize),
+        oem_id: array_at(t, OEM_ID_AT as usize),
+        oem_table_id: array_at(t, OEM_TABLE_ID_AT as usize),
         flags: control_of(t).flags,
     }
 }

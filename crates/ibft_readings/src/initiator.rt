@@ -2,12 +2,11 @@
 ghost use Rattle.std.specs.Prelude.{◌≡◌};
 ghost use Rattle.ibft_readings.specs.Readings.{initiator_in, initiator_of};
 
-use crate::structure::{slot_verdict, structure_part};
+use crate::slots::Slots;
 use ibft_layout::initiator::Initiator;
 use ibft_layout::shape::FLAGS_AT;
 use ibft_layout::string_words::StringWords;
-use ibft_table::seats::starts_of;
-use octets::read::{byte_at, sixteen_at};
+use octets::read::{array_at, byte_at};
 use table_header::verdict::{Refusal, refusal_of};
 
 // The fields of the initiator whose first byte is the part's.
@@ -16,10 +15,10 @@ fn initiator_in(part: &[u8]) -> Initiator
 {
     Initiator {
         flags: byte_at(part, FLAGS_AT as usize),
-        isns: sixteen_at(part, Initiator::ISNS.at as usize),
-        slp: sixteen_at(part, Initiator::SLP.at as usize),
-        radius: sixteen_at(part, Initiator::RADIUS.at as usize),
-        second_radius: sixteen_at(part, Initiator::SECOND_RADIUS.at as usize),
+        isns: array_at(part, Initiator::ISNS.at as usize),
+        slp: array_at(part, Initiator::SLP.at as usize),
+        radius: array_at(part, Initiator::RADIUS.at as usize),
+        second_radius: array_at(part, Initiator::SECOND_RADIUS.at as usize),
         name: StringWords::read(part, Initiator::NAME.at as u32),
     }
 }
@@ -34,10 +33,10 @@ pub struct InitiatorReading {
 pub fn read_initiator(t: &[u8]) -> InitiatorReading
     ensures { result ≡ initiator_of t.now }
 {
-    let starts = starts_of(t);
-    let verdict = slot_verdict(&starts, t, 0, 0);
+    let slots = Slots::of(t);
+    let verdict = slots.slot_verdict(0, 0);
     InitiatorReading {
         refusal: refusal_of(verdict),
-        fields: initiator_in(structure_part(&starts, t, verdict, 0)),
+        fields: initiator_in(slots.structure_part(verdict, 0)),
     }
 }

@@ -10,5 +10,6 @@ pub mod login;
 pub mod nic;
 pub mod pci;
 mod reading;
+mod slots;
 pub mod structure;
 pub mod target;

@@ -10,15 +10,12 @@ use table_header::verdict::{Verdict, refuse};
 pub(crate) fn verdict_of(t: &[u8], beyond: bool, missing: bool) -> Verdict
     ensures { result ≡ first_of (check_tests t.now ++ (refuse 23 0 beyond ∷ refuse 22 0 missing ∷ [])) }
 {
-    let verdict = check(t);
-    if let Verdict::Refused(_) = verdict {
-        return verdict;
-    }
+    check(t)?;
     if beyond {
         return refuse(23, 0);
     }
     if missing {
         return refuse(22, 0);
     }
-    Verdict::Accepted
+    Ok(())
 }

@@ -5,13 +5,13 @@ ghost use Rattle.ibft_layout.specs.Layout.{kind_of};
 ghost use Rattle.ibft_table.specs.Table.{start_in};
 ghost use Rattle.ibft_readings.specs.Readings.{slot_verdict, structure_in, index_shown, structure_of};
 ghost use Rattle.ibft_readings.specs.Promises.{StructureView};
-ghost use Rattle.table_header.specs.declared.verdict.Verdict.TheVariants.{Accepted};
+ghost use Rattle.table_header.specs.Verdict.{Accepted};
 
 use crate::reading::verdict_of;
+use crate::slots::Slots;
 use ibft_layout::initiator::Initiator;
 use ibft_layout::layout::{SLOT_COUNT, kind_of};
 use ibft_layout::shape::FLAGS_AT;
-use ibft_table::seats::starts_of;
 use ibft_table::starts::{index_in, slot_at, start_in};
 use octets::read::{byte_at, part};
 use table_header::verdict::{ACCEPTED, Refusal, Verdict, shown_of};
@@ -26,35 +26,32 @@ pub struct StructureReading {
     pub flags: u8,
 }
 
-// The verdict of a reading of slot k's structure, asked for by this number.
-pub(crate) fn slot_verdict(starts: &[u16], t: &[u8], number: u8, k: u16) -> Verdict
-    ensures { result ≡ slot_verdict starts.now t.now number k }
-{
-    verdict_of(t, SLOT_COUNT <= number, start_in(starts, k) == 0)
-}
+impl<'a> Slots<'a> {
+    // The verdict of a reading of slot k's structure, asked for by this number.
+    pub(crate) fn slot_verdict(&self, number: u8, k: u16) -> Verdict
+        ensures { result ≡ slot_verdict self.now.starts self.now.t.now number k }
+    {
+        verdict_of(self.t, SLOT_COUNT <= number, start_in(&self.starts, k) == 0)
+    }
 
-// The part of the table from slot k's structure on: what the reader of that structure is lent.
-pub(crate) fn structure_part<'a, 'b>(
-    starts: &'a [u16],
-    t: &'b [u8],
-    verdict: Verdict,
-    k: u16,
-) -> &'b [u8]
-    ensures result_value { result.now ≡ structure_in starts.now t.now verdict k }
-    ensures stands { verdict ≡ Accepted → start_in starts.now k ≤ length t.now
-        → Shows t.entry result (start_in starts.now k) (length t.now - start_in starts.now k) }
-{
-    let start = start_in(starts, k) as usize;
-    shown_of(verdict, part(t, start, t.len()))
-}
+    // The part of the table from slot k's structure on: what the reader of that structure is lent.
+    pub(crate) fn structure_part(&self, verdict: Verdict, k: u16) -> &'a [u8]
+        ensures result_value { result.now ≡ structure_in self.now.starts self.now.t.now verdict k }
+        ensures stands { verdict ≡ Accepted → start_in self.now.starts k ≤ length self.now.t.now
+            → Shows self.now.t result (start_in self.now.starts k) (length self.now.t.now - start_in self.now.starts k) }
+    {
+        let start = start_in(&self.starts, k) as usize;
+        shown_of(verdict, part(self.t, start, self.t.len()))
+    }
 
-// Its Index; 0 where its reading is refused.
-pub(crate) fn index_shown(starts: &[u16], t: &[u8], verdict: Verdict, k: u16) -> u8
-    ensures { result ≡ index_shown starts.now t.now verdict k }
-{
-    match verdict {
-        Verdict::Accepted => index_in(starts, t, k),
-        Verdict::Refused(_) => 0,
+    // Its Index; 0 where its reading is refused.
+    pub(crate) fn index_shown(&self, verdict: Verdict, k: u16) -> u8
+        ensures { result ≡ index_shown self.now.starts self.now.t.now verdict k }
+    {
+        match verdict {
+            Ok(()) => index_in(&self.starts, self.t, k),
+            Err(_) => 0,
+        }
     }
 }
 
@@ -72,20 +69,20 @@ fn id_of(k: u16) -> u8
 pub fn read_structure(t: &[u8], number: u8) -> StructureReading
     ensures { result ≡ structure_of t.now number }
 {
-    let starts = starts_of(t);
-    let k = slot_at(&starts, number);
-    match slot_verdict(&starts, t, number, k) {
-        Verdict::Accepted => {
-            let start = start_in(&starts, k);
+    let slots = Slots::of(t);
+    let k = slot_at(&slots.starts, number);
+    match slots.slot_verdict(number, k) {
+        Ok(()) => {
+            let start = start_in(&slots.starts, k);
             StructureReading {
                 refusal: ACCEPTED,
                 id: id_of(k),
-                index: index_in(&starts, t, k),
+                index: index_in(&slots.starts, t, k),
                 start,
                 flags: byte_at(t, start as usize + FLAGS_AT as usize),
             }
         }
-        Verdict::Refused(refusal) => StructureReading {
+        Err(refusal) => StructureReading {
             refusal,
             id: 0,
             index: 0,
@@ -100,8 +97,7 @@ pub fn read_structure(t: &[u8], number: u8) -> StructureReading
 pub fn structure_view(t: &[u8], number: u8) -> &[u8]
     ensures { StructureView t.entry number result }
 {
-    let starts = starts_of(t);
-    let k = slot_at(&starts, number);
-    let verdict = slot_verdict(&starts, t, number, k);
-    structure_part(&starts, t, verdict, k)
+    let slots = Slots::of(t);
+    let k = slot_at(&slots.starts, number);
+    slots.structure_part(slots.slot_verdict(number, k), k)
 }

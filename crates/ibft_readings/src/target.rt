@@ -2,13 +2,12 @@
 ghost use Rattle.std.specs.Prelude.{◌≡◌};
 ghost use Rattle.ibft_readings.specs.Readings.{target_in, target_of};
 
-use crate::structure::{index_shown, slot_verdict, structure_part};
+use crate::slots::Slots;
 use ibft_layout::layout::target_slot;
 use ibft_layout::shape::FLAGS_AT;
 use ibft_layout::string_words::StringWords;
 use ibft_layout::target::Target;
-use ibft_table::seats::starts_of;
-use octets::read::{byte_at, sixteen_at, u16_at, u64_at};
+use octets::read::{array_at, byte_at, u16_at, u64_at};
 use table_header::verdict::{Refusal, refusal_of};
 
 // The fields of the target whose first byte is the part's.
@@ -17,7 +16,7 @@ fn target_in(part: &[u8]) -> Target
 {
     Target {
         flags: byte_at(part, FLAGS_AT as usize),
-        address: sixteen_at(part, Target::ADDRESS.at as usize),
+        address: array_at(part, Target::ADDRESS.at as usize),
         socket: u16_at(part, Target::SOCKET.at as usize),
         lun: u64_at(part, Target::LUN.at as usize),
         chap_type: byte_at(part, Target::CHAP_TYPE.at as usize),
@@ -42,11 +41,11 @@ pub fn read_target(t: &[u8], n: u8) -> TargetReading
     ensures { result ≡ target_of t.now n }
 {
     let slot = target_slot(n);
-    let starts = starts_of(t);
-    let verdict = slot_verdict(&starts, t, slot, slot as u16);
+    let slots = Slots::of(t);
+    let verdict = slots.slot_verdict(slot, slot as u16);
     TargetReading {
         refusal: refusal_of(verdict),
-        index: index_shown(&starts, t, verdict, slot as u16),
-        fields: target_in(structure_part(&starts, t, verdict, slot as u16)),
+        index: slots.index_shown(verdict, slot as u16),
+        fields: target_in(slots.structure_part(verdict, slot as u16)),
     }
 }

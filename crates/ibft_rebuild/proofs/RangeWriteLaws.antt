@@ -2,7 +2,8 @@
 --     marks-none, marks-next                                 a loop that writes a byte for each number
 --     wrote_nothing, wrote_then, wrote-same                  one piece behind another
 --     wrote_none, wrote-next, wrote-done                     a loop that writes a piece for each number
---     image-most, .., extras-most                 how long pieces are
+--     image-most, .., extras-most                            how long pieces are
+--     images-at, counts-at                                   where pieces stand
 --     image-on, image-off, extra-on, extra-off               the image and the extra of a slot, by its start
 --     front-wrote, image-wrote-on, .., extra-wrote-off       what the writers leave
 --     nic-entries, target-entries                            the entries of extras
@@ -175,6 +176,15 @@ module _ (starts t : List ℕ) where
 
   pub extras-most : (slot : ℕ) → slot + extra_most ≤ slot_count → length (gather (extra_in starts t) slot extra_most) ≤ 127 * extra_most
   extras-most slot fits = gather-most (extra_in starts t) 127 slot extra_most (λ k h. extra-most starts t k (omega arith))
+
+  -- where the images and the numbers of extras stand at most
+  pub images-at : (marks entry_marks images : ℕ) → marks ≡ 0 + length (front t)
+      → entry_marks ≡ marks + length (tabulate (λ (k : ℕ). mark (present_in starts k)) 0 named_count)
+      → images ≡ entry_marks + length (marks_in starts t 0 named_entries) → images ≤ 33
+  images-at marks entry_marks images p q r = omega (arith, front-most t, slot-marks-length, marks-length starts t 0 named_entries)
+
+  pub counts-at : (images counts : ℕ) → images ≤ 33 → counts ≡ images + length (gather (image_in starts t) 0 named_count) → counts ≤ 543
+  counts-at images counts p q = omega (arith, images-most)
 
 -- ---- what the writers leave
 

@@ -10,7 +10,7 @@ use native.Mathlib.Omega.{arith}
 use lib.ListN.{length, take}
 use Rattle.ibft_table.specs.Table.{starts_of}
 use Rattle.ibft_table.specs.Check.{check_of}
-use Rattle.table_header.specs.declared.verdict.Verdict.TheVariants.{Accepted}
+use Rattle.table_header.specs.Verdict.{Accepted}
 use Rattle.ibft_table_laws.proofs.TableLaws.{facts}
 use Rattle.ibft_table_laws.proofs.NumberingLaws.{nics-most, targets-most}
 use Rattle.ibft_build_rules.specs.RecordRange.{largest_size}

@@ -2,11 +2,11 @@
 // in a string (20) or want of room (21).
 ghost use Rattle.std.specs.Prelude.{◌≡◌, length};
 ghost use Rattle.ibft_table.specs.Check.{check_of};
-ghost use Rattle.table_header.specs.declared.verdict.Verdict.TheVariants.{Accepted};
+ghost use Rattle.table_header.specs.Verdict.{Accepted};
 ghost use Rattle.ibft_build_rules.specs.Rebuild.{rebuild_answer, rebuild_room};
 ghost use Rattle.ibft_build_rules.specs.RebuildPromises.{Rebuild};
 
-use crate::range::put_range;
+use crate::range::Source;
 use ibft_build::build::build;
 use ibft_build_rules::Built;
 use ibft_build_rules::range::LARGEST_SIZE;
@@ -22,7 +22,11 @@ fn rebuild_accepted(table: &[u8], room: &mut [u8]) -> Built
 {
     let mut range = [0u8; LARGEST_SIZE as usize];
     let starts = starts_of(table);
-    let size = put_range(&mut range, table, &starts);
+    let source = Source {
+        table,
+        starts: &starts,
+    };
+    let size = source.put_range(&mut range);
     build(&range[..size], table, room)
 }
 
@@ -31,7 +35,7 @@ pub fn rebuild(table: &[u8], room: &mut [u8]) -> Built
     ensures { Rebuild table.now room.old result room.new }
 {
     match check(table) {
-        Verdict::Accepted => rebuild_accepted(table, room),
-        Verdict::Refused(refusal) => Built { refusal, length: 0 },
+        Ok(()) => rebuild_accepted(table, room),
+        Err(refusal) => Built { refusal, length: 0 },
     }
 }

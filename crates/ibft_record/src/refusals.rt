@@ -12,21 +12,9 @@ use table_header::verdict::Verdict;
 pub fn contents_verdict(range: &[u8], strings: &[u8]) -> Verdict
     ensures { result ≡ contents_verdict range.now strings.now }
 {
-    let v = range_verdict(range);
-    if let Verdict::Refused(_) = v {
-        return v;
-    }
-    let v = extras_verdict(range);
-    if let Verdict::Refused(_) = v {
-        return v;
-    }
-    let v = flags_verdict(range);
-    if let Verdict::Refused(_) = v {
-        return v;
-    }
-    let v = images_verdict(range);
-    if let Verdict::Refused(_) = v {
-        return v;
-    }
+    range_verdict(range)?;
+    extras_verdict(range)?;
+    flags_verdict(range)?;
+    images_verdict(range)?;
     strings_verdict(range, strings)
 }

@@ -14,13 +14,6 @@ use ibft_layout::shape::INDEX_AT;
 use octets::read::byte_at;
 use table_header::verdict::{Verdict, refuse};
 
-// The one before; the first has none, and 0 stands for it.
-fn one_before(i: u8) -> u8
-    ensures { result ≡ i - 1 }
-{
-    if i == 0 { 0 } else { i - 1 }
-}
-
 // The i-th extra of a kind whose first has the slot number `slot`: its image starts at `at`, that of the one before it at
 // `earlier`.
 fn index_verdict(range: &[u8], at: u16, earlier: u16, slot: u16, i: u8) -> Verdict
@@ -39,22 +32,22 @@ fn index_verdict(range: &[u8], at: u16, earlier: u16, slot: u16, i: u8) -> Verdi
         return refuse(13, place);
     }
     if i == 0 {
-        return Verdict::Accepted;
+        return Ok(());
     }
     if index <= byte_at(range, earlier as usize + INDEX_AT as usize) {
         return refuse(33, place);
     }
-    Verdict::Accepted
+    Ok(())
 }
 
-// The i-th extra NIC.
+// The i-th extra NIC. (Before the first there is none, and 0 stands for it.)
 fn nic_verdict(range: &[u8], i: u8) -> Verdict
     ensures { result ≡ first_of (index_tests range.now nic_image extra_nics i) }
 {
     index_verdict(
         range,
         nic_image(i),
-        nic_image(one_before(i)),
+        nic_image(i.saturating_sub(1)),
         EXTRA_NICS as u16,
         i,
     )
@@ -67,7 +60,7 @@ fn target_verdict(range: &[u8], i: u8) -> Verdict
     index_verdict(
         range,
         target_image(range, i),
-        target_image(range, one_before(i)),
+        target_image(range, i.saturating_sub(1)),
         EXTRA_NICS as u16 + nics_given(range) as u16,
         i,
     )
@@ -78,15 +71,10 @@ fn nics_verdict(range: &[u8]) -> Verdict
     ensures { result ≡ first_of (gather (index_tests range.now nic_image extra_nics) 0 (nics_given range.now)) }
 {
     let nics = nics_given(range);
-    let mut i: u8 = 0;
-    while i < nics {
-        let v = nic_verdict(range, i);
-        if let Verdict::Refused(_) = v {
-            return v;
-        }
-        i += 1;
+    for i in 0..nics {
+        nic_verdict(range, i)?;
     }
-    Verdict::Accepted
+    Ok(())
 }
 
 // The extra targets.
@@ -95,23 +83,15 @@ fn targets_verdict(range: &[u8]) -> Verdict
         (extra_nics + nics_given range.now)) 0 (targets_given range.now)) }
 {
     let targets = targets_given(range);
-    let mut i: u8 = 0;
-    while i < targets {
-        let v = target_verdict(range, i);
-        if let Verdict::Refused(_) = v {
-            return v;
-        }
-        i += 1;
+    for i in 0..targets {
+        target_verdict(range, i)?;
     }
-    Verdict::Accepted
+    Ok(())
 }
 
 pub(crate) fn extras_verdict(range: &[u8]) -> Verdict
     ensures { result ≡ first_of (extras_tests range.now) }
 {
-    let v = nics_verdict(range);
-    if let Verdict::Refused(_) = v {
-        return v;
-    }
+    nics_verdict(range)?;
     targets_verdict(range)
 }

@@ -24,7 +24,7 @@ pub(crate) fn flags_verdict(range: &[u8]) -> Verdict
     if byte_at(range, CONTROL_FLAGS_AT as usize) & Control::RESERVED != 0 {
         return refuse(10, CONTROL_PLACE);
     }
-    Verdict::Accepted
+    Ok(())
 }
 
 // Slot k, where its structure is present; else what its image holds is no part of the record.
@@ -32,7 +32,7 @@ fn image_verdict(range: &[u8], k: u8) -> Verdict
     ensures { result ≡ first_of (image_tests range.now k) }
 {
     if !structure_given(range, k) {
-        return Verdict::Accepted;
+        return Ok(());
     }
     let image = image_at(range, k) as usize;
     let kind = kind_of(k);
@@ -40,25 +40,20 @@ fn image_verdict(range: &[u8], k: u8) -> Verdict
         return refuse(10, slot_number(range, k) as u32);
     }
     if !kind.chap {
-        return Verdict::Accepted;
+        return Ok(());
     }
     if CHAP_LAST < byte_at(range, image + CHAP_AT as usize) {
         return refuse(19, slot_number(range, k) as u32);
     }
-    Verdict::Accepted
+    Ok(())
 }
 
 pub(crate) fn images_verdict(range: &[u8]) -> Verdict
     ensures { result ≡ first_of (gather (image_tests range.now) 0 slot_count) }
 {
     let limit = slot_limit(range);
-    let mut k: u8 = 0;
-    while k < limit {
-        let v = image_verdict(range, k);
-        if let Verdict::Refused(_) = v {
-            return v;
-        }
-        k += 1;
+    for k in 0..limit {
+        image_verdict(range, k)?;
     }
-    Verdict::Accepted
+    Ok(())
 }

@@ -48,12 +48,10 @@ fn has_bad_mark(range: &[u8], at: u32, count: u8) -> bool
     requires { at ≤ 65535 }
     ensures { result ≡ bad_mark range.now at count }
 {
-    let mut i: u8 = 0;
-    while i < count {
+    for i in 0..count {
         if 1 < byte_at(range, at as usize + i as usize) {
             return true;
         }
-        i += 1;
     }
     false
 }
@@ -64,12 +62,10 @@ fn has_bad_nic(range: &[u8]) -> bool
         (λ (i : ℕ). bad_mark range.now (nic_image i + nic.length) (length nic.string_fields)) }
 {
     let nics = nics_given(range);
-    let mut i: u8 = 0;
-    while i < nics {
+    for i in 0..nics {
         if has_bad_mark(range, nic_image(i) as u32 + Nic::LENGTH as u32, NIC_MARKS) {
             return true;
         }
-        i += 1;
     }
     false
 }
@@ -81,8 +77,7 @@ fn has_bad_target(range: &[u8]) -> bool
         (length target.string_fields)) }
 {
     let targets = targets_given(range);
-    let mut i: u8 = 0;
-    while i < targets {
+    for i in 0..targets {
         if has_bad_mark(
             range,
             target_image(range, i) as u32 + Target::LENGTH as u32,
@@ -90,7 +85,6 @@ fn has_bad_target(range: &[u8]) -> bool
         ) {
             return true;
         }
-        i += 1;
     }
     false
 }
@@ -117,5 +111,5 @@ pub(crate) fn range_verdict(range: &[u8]) -> Verdict
     if !is_padded(part(range, TABLE_ID_AT, TABLE_ID_SIZE)) {
         return refuse(8, OEM_TABLE_ID_AT);
     }
-    Verdict::Accepted
+    Ok(())
 }

@@ -17,10 +17,8 @@ fn has_zero(s: &[u8]) -> bool
     ensures { result ≡ has_zero s.now }
 {
     let mut found = false;
-    let mut i = 0;
-    while i < s.len() {
-        found = found | (s[i] == 0);
-        i += 1;
+    for byte in s {
+        found |= *byte == 0;
     }
     found
 }
@@ -31,7 +29,7 @@ fn string_verdict(range: &[u8], strings: &[u8], n: u8) -> Verdict
     ensures { result ≡ first_of (string_tests range.now strings.now n) }
 {
     if !entry_given(range, n) {
-        return Verdict::Accepted;
+        return Ok(());
     }
     let start = entry_start(range, n) as usize;
     let length = entry_length(range, n) as usize;
@@ -47,25 +45,20 @@ fn string_verdict(range: &[u8], strings: &[u8], n: u8) -> Verdict
         return refuse(20, entry_number(range, n) as u32);
     }
     if !string.host {
-        return Verdict::Accepted;
+        return Ok(());
     }
     if !is_host_name(bytes) {
         return refuse(18, entry_number(range, n) as u32);
     }
-    Verdict::Accepted
+    Ok(())
 }
 
 pub(crate) fn strings_verdict(range: &[u8], strings: &[u8]) -> Verdict
     ensures { result ≡ first_of (gather (string_tests range.now strings.now) 0 entry_count) }
 {
     let limit = entry_limit(range);
-    let mut n: u8 = 0;
-    while n < limit {
-        let v = string_verdict(range, strings, n);
-        if let Verdict::Refused(_) = v {
-            return v;
-        }
-        n += 1;
+    for n in 0..limit {
+        string_verdict(range, strings, n)?;
     }
-    Verdict::Accepted
+    Ok(())
 }

@@ -6,12 +6,11 @@ use Rattle.octets.specs.Counting.{any, count, gather}
 use Rattle.octets.specs.Octets.{byte, word16, part, differs}
 use Rattle.hostname.specs.Hostname.{is_host_name}
 use Rattle.ibft_layout.specs.Layout.{Kind, control, named_count, extra_most, least_index, control_at, extensions_at, word_at, chap_at, entry_count}
-use Rattle.ibft_layout.specs.Layout.{most_words, string_of, ibft_signature, least_length, flags_at}
-use Rattle.table_header.specs.Verdict.{Test, refuse, first_of}
+use Rattle.ibft_layout.specs.Layout.{most_words, string_of}
+use Rattle.table_header.specs.Verdict.{Test, refuse, first_of, Verdict}
 use Rattle.table_header.specs.Header.{length_of, header_tests}
 use Rattle.ibft_table.specs.Table.{control_length, control_end_of, word_count, start_at, used_at, kind_at, index_at, end_at, heap_of, alike}
 use Rattle.ibft_table.specs.Table.{starts_of, field_in, size_in, offset_in, holds_in}
-use Rattle.table_header.specs.declared.verdict.Verdict.{Verdict}
 
 -- another ID, version, length or Index stands at `start` than a structure of this kind has
 unfoldable pub alien : List ℕ → ℕ → Kind → ℕ → Bool

@@ -4,9 +4,7 @@ use Rattle.octets.specs.Octets.{le16, le32, zeros, checksum, write}
 use Rattle.ibft_layout.specs.Layout.{control, control_at, control_end, word_at, kind_of, index_of, chap_at}
 use Rattle.ibft_table.specs.Check.{check_of}
 use Rattle.ibft_table.specs.Computing.{computing}
-use Rattle.table_header.specs.Verdict.{refusal, refusal_with}
-use Rattle.table_header.specs.declared.verdict.Verdict.{Verdict}
-use Rattle.table_header.specs.declared.verdict.Verdict.TheVariants.{Accepted, Refused}
+use Rattle.table_header.specs.Verdict.{refusal, Verdict, Accepted, Refused}
 
 -- a table of n bytes in which nothing is present: header, Control, zero bytes
 unfoldable pub blank : ℕ → List ℕ

@@ -6,8 +6,7 @@ use Rattle.ibft_table.specs.Check.{check_of}
 use Rattle.ibft_table.specs.Secrets.{secrets_apart}
 use Rattle.ibft_table.specs.CheckCases.{blank, place, words, sealed}
 use Rattle.ibft_table.specs.Computing.{computing}
-use Rattle.table_header.specs.declared.verdict.Verdict.{Verdict}
-use Rattle.table_header.specs.declared.verdict.Verdict.TheVariants.{Accepted}
+use Rattle.table_header.specs.Verdict.{Verdict, Accepted}
 
 -- a string of Target 0: where its words stand in the structure, its length, its offset
 record String : Type 0 where

@@ -1,5 +1,5 @@
 // The check of the entries: refusals 15 to 18, entry by entry; and where the heap starts.
-ghost use Rattle.std.specs.Prelude.{◌≡◌, [], ◌∷◌, cond, not, ◌&&◌, ℕ, max, ◌≤◌, ◌<◌, length, ltb, eqb};
+ghost use Rattle.std.specs.Prelude.{◌≡◌, [], ◌∷◌, cond, not, ◌&&◌, ℕ, ◌≤◌, ◌<◌, length, ltb, eqb};
 ghost use Rattle.octets.specs.Counting.{gather};
 ghost use Rattle.octets.specs.Octets.{part};
 ghost use Rattle.hostname.specs.Hostname.{is_host_name};
@@ -9,9 +9,10 @@ ghost use Rattle.ibft_table.specs.Table.{word_count, used_at, end_at, end_below,
 ghost use Rattle.table_header.specs.Verdict.{refuse, first_of};
 ghost use Rattle.ibft_table.specs.Check.{entry_tests};
 
+use crate::measured::Measured;
 use crate::seats::starts_of;
 use crate::starts::start_in;
-use crate::words::{control_end, end_at, named_end, start_at};
+use crate::words::{end_at, named_end, start_at};
 use hostname::is_host_name;
 use ibft_layout::layout::{
     EXTRA_NICS, EXTRA_TARGETS, NAMED_COUNT, NAMED_ENTRIES, SLOT_COUNT, TARGET_ENTRIES, owner_of,
@@ -22,12 +23,6 @@ use ibft_layout::string_words::StringWords;
 use ibft_layout::target::Target;
 use octets::read::{byte_at, part};
 use table_header::verdict::{Verdict, refuse};
-
-fn later(a: u32, b: u32) -> u32
-    ensures { result ≡ max a b }
-{
-    if a < b { b } else { a }
-}
 
 // Where named word w's structure ends; 0 where the word is not used.
 fn named_end_if_used(t: &[u8], w: u8) -> u32
@@ -42,14 +37,12 @@ fn named_end_if_used(t: &[u8], w: u8) -> u32
 }
 
 // Where the last structure of the named words ends, Control where there is none.
-fn named_heap(t: &[u8]) -> u32
-    ensures { result ≡ end_below t.now named_count }
+fn named_heap(table: Measured) -> u32
+    ensures { result ≡ end_below table.entry.t.now named_count }
 {
-    let mut heap = control_end(t);
-    let mut w: u8 = 0;
-    while w < NAMED_COUNT {
-        heap = later(heap, named_end_if_used(t, w));
-        w += 1;
+    let mut heap = table.least;
+    for w in 0..NAMED_COUNT {
+        heap = heap.max(named_end_if_used(table.t, w));
     }
     heap
 }
@@ -61,16 +54,13 @@ fn end_if_used(t: &[u8], w: u8) -> u32
     if start_at(t, w) == 0 { 0 } else { end_at(t, w) }
 }
 
-// Where the heap starts: where the last structure ends, Control where there is no other. There are `words` words.
-pub(crate) fn heap_start(t: &[u8], words: u8) -> u32
-    requires { words ≡ word_count t.now }
-    ensures { result ≡ heap_of t.now }
+// Where the heap starts: where the last structure ends, Control where there is no other.
+fn heap_start(table: Measured) -> u32
+    ensures { result ≡ heap_of table.entry.t.now }
 {
-    let mut heap = named_heap(t);
-    let mut w: u8 = NAMED_COUNT;
-    while w < words {
-        heap = later(heap, end_if_used(t, w));
-        w += 1;
+    let mut heap = named_heap(table);
+    for w in NAMED_COUNT..table.words {
+        heap = heap.max(end_if_used(table.t, w));
     }
     heap
 }
@@ -93,12 +83,12 @@ fn check_form(t: &[u8], field: u32, size: u16, offset: u16, string: StringShape)
         return refuse(17, field);
     }
     if !string.host {
-        return Verdict::Accepted;
+        return Ok(());
     }
     if !is_host_name(part(t, offset as usize, size as usize)) {
         return refuse(18, field);
     }
-    Verdict::Accepted
+    Ok(())
 }
 
 // Where the structure of entry n starts. A named slot's word says so; `starts` has those of the extras.
@@ -114,13 +104,14 @@ fn entry_start(starts: &[u16], t: &[u8], n: u8) -> u16
 }
 
 // Entry n, where it is present. (A length without an offset is no test of its own: it lies below the heap.)
-fn check_entry(starts: &[u16], t: &[u8], length: u32, heap: u32, n: u8) -> Verdict
-    requires { ((k : ℕ) → named_count ≤ k → start_in starts.now k ≡ start_in (starts_of t.now) k) × (length ≡ length_of t.now) × (heap ≡ heap_of t.now) }
-    ensures { result ≡ first_of (entry_tests (starts_of t.now) t.now n) }
+fn check_entry(table: Measured, starts: &[u16], heap: u32, n: u8) -> Verdict
+    requires { ((k : ℕ) → named_count ≤ k → start_in starts.now k ≡ start_in (starts_of table.t.now) k) × (heap ≡ heap_of table.t.now) }
+    ensures { result ≡ first_of (entry_tests (starts_of table.entry.t.now) table.entry.t.now n) }
 {
+    let t = table.t;
     let start = entry_start(starts, t, n);
     if start == 0 {
-        return Verdict::Accepted;
+        return Ok(());
     }
     let string = string_of(n as u16);
     let field = start as u32 + string.at as u32;
@@ -128,16 +119,16 @@ fn check_entry(starts: &[u16], t: &[u8], length: u32, heap: u32, n: u8) -> Verdi
     let size = words.length;
     let offset = words.offset;
     if missing(size, offset) {
-        return Verdict::Accepted;
+        return Ok(());
     }
     let end = offset as u32 + size as u32;
     if (offset as u32) < heap {
         return refuse(15, field);
     }
-    if length < end {
+    if table.length < end {
         return refuse(15, field);
     }
-    if length == end {
+    if table.length == end {
         return refuse(16, field);
     }
     if byte_at(t, end as usize) != 0 {
@@ -147,14 +138,13 @@ fn check_entry(starts: &[u16], t: &[u8], length: u32, heap: u32, n: u8) -> Verdi
 }
 
 // The starts of the extras by slot: zeros where there is no extra word. (What they take is spared in a table without extras.)
-fn extra_starts(t: &[u8], words: u8) -> [u16; SLOT_COUNT as usize]
-    requires { words ≡ word_count t.now }
-    ensures { (length result ≡ slot_count) × ((k : ℕ) → named_count ≤ k → start_in result k ≡ start_in (starts_of t.now) k) }
+fn extra_starts(table: Measured) -> [u16; SLOT_COUNT as usize]
+    ensures { (length result ≡ slot_count) × ((k : ℕ) → named_count ≤ k → start_in result k ≡ start_in (starts_of table.entry.t.now) k) }
 {
-    if words == NAMED_COUNT {
+    if table.words == NAMED_COUNT {
         return [0; SLOT_COUNT as usize];
     }
-    starts_of(t)
+    starts_of(table.t)
 }
 
 // One past the last slot that is in use, of the extras.
@@ -162,14 +152,13 @@ fn slot_limit(starts: &[u16]) -> u8
     requires { length starts.now ≡ slot_count }
     ensures { (named_count ≤ result) × (result ≤ slot_count) × ((k : ℕ) → result ≤ k → start_in starts.now k ≡ 0) }
 {
-    let mut k: u8 = SLOT_COUNT;
-    while NAMED_COUNT < k {
-        if start_in(starts, k as u16 - 1) != 0 {
-            return k;
+    let mut limit = NAMED_COUNT;
+    for k in NAMED_COUNT..SLOT_COUNT {
+        if start_in(starts, k as u16) != 0 {
+            limit = k + 1;
         }
-        k -= 1;
     }
-    k
+    limit
 }
 
 // How many entries the slots below k have.
@@ -194,22 +183,17 @@ fn entry_limit(starts: &[u16], words: u8) -> u8
     entries_below(slot_limit(starts))
 }
 
-// Entry by entry; Control has `words` words. (One loop, for the named slots and the extras: LLVM then keeps the tests of an
+// Entry by entry. (One loop, for the named slots and the extras: LLVM then keeps the tests of an
 // entry inside it. With two loops they would be a call for each entry, and a table without extras would take a quarter longer
 // at the least.)
-pub(crate) fn check_entries(t: &[u8], length: u32, heap: u32, words: u8) -> Verdict
-    requires { (length ≡ length_of t.now) × (heap ≡ heap_of t.now) × (words ≡ word_count t.now) }
-    ensures { result ≡ first_of (gather (entry_tests (starts_of t.now) t.now) 0 entry_count) }
+pub(crate) fn check_entries(table: Measured) -> Verdict
+    ensures { result ≡ first_of (gather (entry_tests (starts_of table.entry.t.now) table.entry.t.now) 0 entry_count) }
 {
-    let starts = extra_starts(t, words);
-    let limit = entry_limit(&starts, words);
-    let mut n: u8 = 0;
-    while n < limit {
-        let v = check_entry(&starts, t, length, heap, n);
-        if let Verdict::Refused(_) = v {
-            return v;
-        }
-        n += 1;
+    let heap = heap_start(table);
+    let starts = extra_starts(table);
+    let limit = entry_limit(&starts, table.words);
+    for n in 0..limit {
+        check_entry(table, &starts, heap, n)?;
     }
-    Verdict::Accepted
+    Ok(())
 }

@@ -4,10 +4,10 @@ ghost use Rattle.octets.specs.Counting.{any, gather};
 ghost use Rattle.octets.specs.Octets.{differs};
 ghost use Rattle.ibft_layout.specs.Layout.{named_count, word_at};
 ghost use Rattle.ibft_table.specs.Table.{word_count, start_at, used_at, end_at};
-ghost use Rattle.table_header.specs.Verdict.{refusal, first_of};
+ghost use Rattle.table_header.specs.Verdict.{refusal, first_of, Refused};
 ghost use Rattle.ibft_table.specs.Check.{overlap, overlap_tests};
-ghost use Rattle.table_header.specs.declared.verdict.Verdict.TheVariants.{Refused};
 
+use crate::measured::Measured;
 use crate::words::{end_at, named_end, start_at, word_at};
 use ibft_layout::layout::NAMED_COUNT;
 use table_header::verdict::{Verdict, refuse};
@@ -38,12 +38,10 @@ fn shares_named(t: &[u8], start: u32, end: u32, w: u8) -> bool
     requires { w ≤ named_count }
     ensures { result ≡ any w (λ (v : ℕ). used_at t.now v && (ltb (start_at t.now v) end && ltb start (end_at t.now v))) }
 {
-    let mut v: u8 = 0;
-    while v < w {
+    for v in 0..w {
         if shares(start, end, start_at(t, v) as u32, named_end(t, v)) {
             return true;
         }
-        v += 1;
     }
     false
 }
@@ -63,14 +61,12 @@ fn named_overlaps(t: &[u8], w: u8) -> bool
 fn check_named_overlaps(t: &[u8]) -> Verdict
     ensures { result ≡ first_of (gather (overlap_tests t.now) 0 named_count) }
 {
-    let mut w: u8 = 0;
-    while w < NAMED_COUNT {
+    for w in 0..NAMED_COUNT {
         if named_overlaps(t, w) {
             return refuse_overlap(w);
         }
-        w += 1;
     }
-    Verdict::Accepted
+    Ok(())
 }
 
 // Does extra word w's structure share a byte with an earlier word's?
@@ -86,38 +82,29 @@ fn extra_overlaps(t: &[u8], w: u8) -> bool
     if shares_named(t, start, end, NAMED_COUNT) {
         return true;
     }
-    let mut v: u8 = NAMED_COUNT;
-    while v < w {
+    for v in NAMED_COUNT..w {
         if shares(start, end, start_at(t, v) as u32, end_at(t, v)) {
             return true;
         }
-        v += 1;
     }
     false
 }
 
-fn check_extra_overlaps(t: &[u8], words: u8) -> Verdict
-    requires { named_count ≤ words }
-    ensures { result ≡ first_of (gather (overlap_tests t.now) named_count (words - named_count)) }
+fn check_extra_overlaps(table: Measured) -> Verdict
+    ensures { result ≡ first_of (gather (overlap_tests table.entry.t.now) named_count (word_count table.entry.t.now - named_count)) }
 {
-    let mut w: u8 = NAMED_COUNT;
-    while w < words {
-        if extra_overlaps(t, w) {
+    for w in NAMED_COUNT..table.words {
+        if extra_overlaps(table.t, w) {
             return refuse_overlap(w);
         }
-        w += 1;
     }
-    Verdict::Accepted
+    Ok(())
 }
 
-// The named words, then the extra ones; there are `words` of both.
-pub(crate) fn check_overlaps(t: &[u8], words: u8) -> Verdict
-    requires { words ≡ word_count t.now }
-    ensures { result ≡ first_of (gather (overlap_tests t.now) 0 (word_count t.now)) }
+// The named words, then the extra ones.
+pub(crate) fn check_overlaps(table: Measured) -> Verdict
+    ensures { result ≡ first_of (gather (overlap_tests table.entry.t.now) 0 (word_count table.entry.t.now)) }
 {
-    let v = check_named_overlaps(t);
-    if let Verdict::Refused(_) = v {
-        return v;
-    }
-    check_extra_overlaps(t, words)
+    check_named_overlaps(table.t)?;
+    check_extra_overlaps(table)
 }

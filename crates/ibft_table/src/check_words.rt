@@ -9,7 +9,8 @@ ghost use Rattle.table_header.specs.Verdict.{first_of};
 ghost use Rattle.ibft_table.specs.Check.{alien, twin, extra_tests, flag_tests, word_tests};
 
 use crate::check_control::alien;
-use crate::seats::{alike, one_if};
+use crate::measured::Measured;
+use crate::seats::alike;
 use crate::words::{end_at, index_at, kind_at, start_at, word_at};
 use ibft_layout::layout::{
     CHAP_AT, CHAP_LAST, EXTRA_MOST, LEAST_INDEX, NAMED_COUNT, index_of, kind_of,
@@ -37,18 +38,19 @@ fn misplaced(length: u32, least: u32, start: u16, size: u16) -> bool
     length < start as u32 + size as u32
 }
 
-// Named word w, where it is used. Control ends at `least`. (The kind and the Index are constants once LLVM has unrolled the
-// loop below; the flags are tested here, as another function's `Shape` would go through memory.)
-fn check_named(t: &[u8], length: u32, least: u32, w: u8) -> Verdict
-    requires { (length ≡ length_of t.now) × (least ≡ control_end_of t.now) × (w < named_count) }
-    ensures { result ≡ first_of (word_tests t.now w) }
+// Named word w, where it is used. (The kind and the Index are constants once LLVM has unrolled the loop below; the flags are
+// tested here, as with one function for these and an extra's the check of the largest tables takes a twentieth longer.)
+fn check_named(table: Measured, w: u8) -> Verdict
+    requires { w < named_count }
+    ensures { result ≡ first_of (word_tests table.entry.t.now w) }
 {
+    let t = table.t;
     let start = start_at(t, w);
     if start == 0 {
-        return Verdict::Accepted;
+        return Ok(());
     }
     let kind = kind_of(w);
-    if misplaced(length, least, start, kind.length) {
+    if misplaced(table.length, table.least, start, kind.length) {
         return refuse(12, word_at(w) as u32);
     }
     if alien(t, start, kind, index_of(w)) {
@@ -59,28 +61,22 @@ fn check_named(t: &[u8], length: u32, least: u32, w: u8) -> Verdict
         return refuse(10, flags_at);
     }
     if !kind.chap {
-        return Verdict::Accepted;
+        return Ok(());
     }
     let chap_at = start as u32 + CHAP_AT as u32;
     if CHAP_LAST < byte_at(t, chap_at as usize) {
         return refuse(19, chap_at);
     }
-    Verdict::Accepted
+    Ok(())
 }
 
-fn check_named_words(t: &[u8], length: u32, least: u32) -> Verdict
-    requires { (length ≡ length_of t.now) × (least ≡ control_end_of t.now) }
-    ensures { result ≡ first_of (gather (word_tests t.now) 0 named_count) }
+fn check_named_words(table: Measured) -> Verdict
+    ensures { result ≡ first_of (gather (word_tests table.entry.t.now) 0 named_count) }
 {
-    let mut w: u8 = 0;
-    while w < NAMED_COUNT {
-        let v = check_named(t, length, least, w);
-        if let Verdict::Refused(_) = v {
-            return v;
-        }
-        w += 1;
+    for w in 0..NAMED_COUNT {
+        check_named(table, w)?;
     }
-    Verdict::Accepted
+    Ok(())
 }
 
 // Does another ID, version or length stand there than an extra has, or an Index that only a named structure has?
@@ -109,12 +105,10 @@ fn twin(t: &[u8], w: u8, v: u8) -> bool
 fn has_twin(t: &[u8], w: u8) -> bool
     ensures { result ≡ any w (twin t.now w) }
 {
-    let mut v: u8 = NAMED_COUNT;
-    while v < w {
+    for v in NAMED_COUNT..w {
         if twin(t, w, v) {
             return true;
         }
-        v += 1;
     }
     false
 }
@@ -124,29 +118,28 @@ fn count_alike(t: &[u8], w: u8) -> u8
     requires { named_count ≤ w }
     ensures { result ≡ count w (alike t.now w) }
 {
-    let mut n: u8 = 0;
-    let mut v: u8 = NAMED_COUNT;
-    while v < w {
-        n += one_if(alike(t, w, v));
-        v += 1;
+    let mut n = 0;
+    for v in NAMED_COUNT..w {
+        n += u8::from(alike(t, w, v));
     }
     n
 }
 
 // What the structure of extra word w starts with, and that it is one more extra.
-fn check_start(t: &[u8], length: u32, least: u32, w: u8) -> Verdict
-    requires { (length ≡ length_of t.now) × (least ≡ control_end_of t.now) × (named_count ≤ w) }
-    ensures { result ≡ first_of (extra_tests t.now w) }
+fn check_start(table: Measured, w: u8) -> Verdict
+    requires { named_count ≤ w }
+    ensures { result ≡ first_of (extra_tests table.entry.t.now w) }
 {
+    let t = table.t;
     let at = word_at(w) as u32;
     let start = start_at(t, w);
-    if misplaced(length, least, start, START_SIZE) {
+    if misplaced(table.length, table.least, start, START_SIZE) {
         return refuse(12, at);
     }
     if no_extra(t, w) {
         return refuse(13, start as u32);
     }
-    if length < end_at(t, w) {
+    if table.length < end_at(t, w) {
         return refuse(12, at);
     }
     if has_twin(t, w) {
@@ -155,7 +148,7 @@ fn check_start(t: &[u8], length: u32, least: u32, w: u8) -> Verdict
     if EXTRA_MOST <= count_alike(t, w) {
         return refuse(34, at);
     }
-    Verdict::Accepted
+    Ok(())
 }
 
 // Its flags and its CHAP type.
@@ -169,53 +162,40 @@ fn check_flags(t: &[u8], w: u8) -> Verdict
         return refuse(10, flags_at);
     }
     if !kind.chap {
-        return Verdict::Accepted;
+        return Ok(());
     }
     let chap_at = start as u32 + CHAP_AT as u32;
     if CHAP_LAST < byte_at(t, chap_at as usize) {
         return refuse(19, chap_at);
     }
-    Verdict::Accepted
+    Ok(())
 }
 
 // Extra word w, where it is used.
-fn check_extra(t: &[u8], length: u32, least: u32, w: u8) -> Verdict
-    requires { (length ≡ length_of t.now) × (least ≡ control_end_of t.now) × (named_count ≤ w) }
-    ensures { result ≡ first_of (word_tests t.now w) }
+fn check_extra(table: Measured, w: u8) -> Verdict
+    requires { named_count ≤ w }
+    ensures { result ≡ first_of (word_tests table.entry.t.now w) }
 {
-    if start_at(t, w) == 0 {
-        return Verdict::Accepted;
+    if start_at(table.t, w) == 0 {
+        return Ok(());
     }
-    let v = check_start(t, length, least, w);
-    if let Verdict::Refused(_) = v {
-        return v;
-    }
-    check_flags(t, w)
+    check_start(table, w)?;
+    check_flags(table.t, w)
 }
 
-fn check_extra_words(t: &[u8], length: u32, least: u32, words: u8) -> Verdict
-    requires { (length ≡ length_of t.now) × (least ≡ control_end_of t.now) × (named_count ≤ words) }
-    ensures { result ≡ first_of (gather (word_tests t.now) named_count (words - named_count)) }
+fn check_extra_words(table: Measured) -> Verdict
+    ensures { result ≡ first_of (gather (word_tests table.entry.t.now) named_count (word_count table.entry.t.now - named_count)) }
 {
-    let mut w: u8 = NAMED_COUNT;
-    while w < words {
-        let v = check_extra(t, length, least, w);
-        if let Verdict::Refused(_) = v {
-            return v;
-        }
-        w += 1;
+    for w in NAMED_COUNT..table.words {
+        check_extra(table, w)?;
     }
-    Verdict::Accepted
+    Ok(())
 }
 
-// The named words, then the extra ones; there are `words` of both.
-pub(crate) fn check_words(t: &[u8], length: u32, least: u32, words: u8) -> Verdict
-    requires { (length ≡ length_of t.now) × (least ≡ control_end_of t.now) × (words ≡ word_count t.now) }
-    ensures { result ≡ first_of (gather (word_tests t.now) 0 (word_count t.now)) }
+// The named words, then the extra ones.
+pub(crate) fn check_words(table: Measured) -> Verdict
+    ensures { result ≡ first_of (gather (word_tests table.entry.t.now) 0 (word_count table.entry.t.now)) }
 {
-    let v = check_named_words(t, length, least);
-    if let Verdict::Refused(_) = v {
-        return v;
-    }
-    check_extra_words(t, length, least, words)
+    check_named_words(table)?;
+    check_extra_words(table)
 }

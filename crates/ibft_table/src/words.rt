@@ -68,9 +68,9 @@ pub(crate) fn kind_at(t: &[u8], w: u8) -> Shape
         return kind_of(w);
     }
     if byte_at(t, start_at(t, w) as usize) == Nic::ID {
-        return Nic::shape();
+        return Nic::SHAPE;
     }
-    Target::shape()
+    Target::SHAPE
 }
 
 // Its Index: that of a named word is settled, an extra word's is what its structure says.

@@ -19,13 +19,12 @@ use Rattle.octets.specs.Octets.{byte, word16, word32, part, sum, differs}
 use Rattle.octets.proofs.CountingLaws.{clash, any_none, any-no}
 use Rattle.ibft_layout.specs.Layout.{Kind, control, nic, target, named_count, extra_most, least_index, most_words, control_at, extensions_at}
 use Rattle.ibft_layout.specs.Layout.{chap_at, entry_count, string_of, ibft_signature, least_length}
-use Rattle.table_header.specs.Verdict.{first_of}
+use Rattle.table_header.specs.Verdict.{first_of, Accepted}
 use Rattle.table_header.specs.Header.{length_of, padded, header_tests}
 use Rattle.ibft_table.specs.Table.{control_length, control_end_of, word_count, start_at, used_at, kind_at, index_at, end_at, alike, heap_of, starts_of}
 use Rattle.ibft_table.specs.Table.{size_of, offset_of, holds_entry}
 use Rattle.ibft_table.specs.Check.{alien, alien_control, reserved_set, control_tests, misplaced, named_tests, extra_tests, flag_tests, twin}
 use Rattle.ibft_table.specs.Check.{word_tests, overlap, overlap_tests, entry_tests, check_tests, check_of}
-use Rattle.table_header.specs.declared.verdict.Verdict.TheVariants.{Accepted}
 use Rattle.ibft_table_laws.specs.Facts.{HeaderFacts, StartFacts, ControlFacts, WordFacts, ExtraFacts, EntryFacts, Apart, Facts}
 use Rattle.octets.proofs.TestLaws.{and-other, and_no, or-both, or_no, differs-no, same_differs}
 use Rattle.ibft_table.proofs.CheckLaws.{heap-after-control}

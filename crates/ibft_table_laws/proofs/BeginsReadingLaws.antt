@@ -11,7 +11,7 @@ use lib.ListN.{length, drop, length-drop}
 use Rattle.octets.specs.Octets.{part, bytes_past, bytes_at}
 use Rattle.octets.proofs.ReadLaws.{bytes-part, part-from}
 use Rattle.ibft_layout.specs.Layout.{Kind, initiator, nic, target, slot_count, entry_count, kind_of, nic_slot, target_slot, least_length}
-use Rattle.table_header.specs.Verdict.{accepted, refusal_of, shown}
+use Rattle.table_header.specs.Verdict.{accepted, refusal_of, shown, Verdict, Accepted, Refused}
 use Rattle.table_header.specs.Header.{length_of}
 use Rattle.ibft_table.specs.Table.{starts_of, start_of, present, size_of, offset_of, holds_entry}
 use Rattle.ibft_table.specs.Check.{check_of}
@@ -20,8 +20,6 @@ use Rattle.ibft_readings.specs.Readings.{initiator_in, nic_in, target_in, header
 use Rattle.ibft_readings.specs.Readings.{index_shown, structure_from, structure_got, structure_of, initiator_of, nic_of, target_of, entry_verdict}
 use Rattle.ibft_readings.specs.Readings.{entry_from, entry_got, entry_of, view_got, view_of}
 use Rattle.table_header.specs.declared.verdict.Refusal.{Refusal}
-use Rattle.table_header.specs.declared.verdict.Verdict.{Verdict}
-use Rattle.table_header.specs.declared.verdict.Verdict.TheVariants.{Accepted, Refused}
 use Rattle.ibft_layout.specs.declared.initiator.Initiator.{Initiator}
 use Rattle.ibft_layout.specs.declared.nic.Nic.{Nic}
 use Rattle.ibft_layout.specs.declared.target.Target.{Target}

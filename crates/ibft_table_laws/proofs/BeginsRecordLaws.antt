@@ -20,7 +20,7 @@ use Rattle.ibft_table.specs.Table.{heap_of, starts_of, index_in, present, size_o
 use Rattle.ibft_table.specs.Check.{check_of}
 use Rattle.ibft_table.specs.Record.{content_in, content_of, record_of}
 use Rattle.ibft_readings.specs.Login.{has, target_flags, valid, selected, chosen, target_index, order_in, order_of, placed, login_from, login_order_of}
-use Rattle.table_header.specs.declared.verdict.Verdict.TheVariants.{Accepted}
+use Rattle.table_header.specs.Verdict.{Accepted}
 use Rattle.ibft_table_laws.specs.Begins.{Begins}
 use Rattle.ibft_table.specs.Order.{keeps_in, keeps_order}
 use Rattle.octets.proofs.TestLaws.{and_both}

@@ -19,13 +19,12 @@ use Rattle.octets.specs.Octets.{byte, sum, checksum, differs}
 use Rattle.hostname.specs.Hostname.{is_host_name}
 use Rattle.ibft_layout.specs.Layout.{Kind, control, nic, target, slot_count, entry_count, named_count, extra_most, most_words, least_index}
 use Rattle.ibft_layout.specs.Layout.{kind_of, owner_of, string_of, control_at, extensions_at, chap_at, ibft_signature, least_length}
-use Rattle.table_header.specs.Verdict.{Test, refusal, first_of, refusal_with}
+use Rattle.table_header.specs.Verdict.{Test, refusal, first_of, refusal_with, Accepted}
 use Rattle.table_header.specs.Header.{length_of, padded, header_tests}
 use Rattle.ibft_table.specs.Table.{control_end_of, word_count, start_at, used_at, kind_at, index_at, end_at, heap_of, alike, extra_words, starts_of}
 use Rattle.ibft_table.specs.Table.{start_in, present_in, end_in, start_of, present, end_of, size_of, offset_of, holds_entry}
 use Rattle.ibft_table.specs.Check.{alien, reserved_set, alien_control, control_tests, misplaced, named_tests, twin, extra_tests, flag_tests}
 use Rattle.ibft_table.specs.Check.{word_tests, overlap, overlap_tests, entry_tests, check_tests, check_of}
-use Rattle.table_header.specs.declared.verdict.Verdict.TheVariants.{Accepted}
 use Rattle.ibft_table_laws.specs.Begins.{Begins}
 use Rattle.ibft_table_laws.specs.Facts.{ExtraFacts}
 use Rattle.octets.proofs.CountingLaws.{clash, any_same}

@@ -15,7 +15,7 @@ use Rattle.ibft_layout.specs.Layout.{kind_of, index_of, slot_count, named_count,
 use Rattle.ibft_table.specs.Table.{word_count, start_at, used_at, end_at, heap_of, starts_of, index_in, present, start_of, end_of, size_of, offset_of, holds_entry}
 use Rattle.ibft_table.specs.Check.{check_of}
 use Rattle.ibft_table.specs.Record.{body_size, content_in, content_of}
-use Rattle.table_header.specs.declared.verdict.Verdict.TheVariants.{Accepted}
+use Rattle.table_header.specs.Verdict.{Accepted}
 use Rattle.ibft_table.proofs.CheckLaws.{heap-after-control}
 use Rattle.ibft_table_laws.specs.Begins.{Begins}
 use Rattle.ibft_table_laws.proofs.LayoutLaws.{slot-fits, entry-fits}

@@ -9,10 +9,10 @@
 --     least-length     so Length is no less
 --     least-record     and so for every table that reads as a record
 -- Assumes nothing.
+use Rattle.std.specs.Prelude.{Option, None, Some}
 use mathlib.Core.Path.{◌≡◌, refl, sym, ap, ap₂, ◌∙◌, subst}
 use mathlib.Core.Logic.{inl, inr, ⊎_elim}
 use mathlib.Core.Bool.{Bool, true, false, cond, ◌&&◌}
-use mathlib.Core.Option.{Option, none, some}
 use mathlib.Core.List.{List}
 use Prim.Native.Nat.{ℕ, zero, suc, ◌+◌, ◌-◌, ◌≤◌, ◌<◌}
 use native.Mathlib.Omega.{arith}
@@ -31,7 +31,7 @@ use Rattle.table_header.specs.Header.{length_of}
 use Rattle.ibft_table.specs.Table.{control_end_of, extra_words, starts_of, start_of, present, end_in, heap_of, size_of, offset_of}
 use Rattle.ibft_table.specs.Check.{check_of}
 use Rattle.ibft_table.specs.Record.{Content, listed, shown_if, content_in, content_of, record_of}
-use Rattle.table_header.specs.declared.verdict.Verdict.TheVariants.{Accepted}
+use Rattle.table_header.specs.Verdict.{Accepted}
 use Rattle.ibft_table.specs.Order.{keeps_order}
 use Rattle.ibft_table.specs.Secrets.{secrets_apart}
 use Rattle.octets.proofs.TestLaws.{and_both}
@@ -130,13 +130,13 @@ module _ (t : List ℕ) (ok : check_of t ≡ Accepted) where
   -- ---- the heap's size, and Length
 
   module _ (e : ℕ → Entry) (reads : (n : ℕ) → n < entry_count → (content_of t).entry n ≡ e n) where
-    pub content-stands : (n : ℕ) (a : List ℕ) → n < entry_count → e n ≡ some a → Stands t (heap_of t) (length_of t) (offset_of t n) a
+    pub content-stands : (n : ℕ) (a : List ℕ) → n < entry_count → e n ≡ Some a → Stands t (heap_of t) (length_of t) (offset_of t n) a
     content-stands n a h is =
         let w = table-entry-some t n a (reads n h ∙ is) in
         subst (λ (b : List ℕ). Stands t (heap_of t) (length_of t) (offset_of t n) b) w.1 (entry-stands t ok n h w.0)
 
     -- those of which one may not share, apart
-    pub content-apart : secrets_apart t ≡ true → (i j : ℕ) (a b : List ℕ) → i < j → j < entry_count → e i ≡ some a → e j ≡ some b
+    pub content-apart : secrets_apart t ≡ true → (i j : ℕ) (a b : List ℕ) → i < j → j < entry_count → e i ≡ Some a → e j ≡ Some b
         → (may_share i && may_share j) ≡ false → Apart (offset_of t i) (offset_of t i + length a + 1) (offset_of t j) (offset_of t j + length b + 1)
     content-apart apart i j a b l h p q alone =
         let u = table-entry-some t i a (reads i (omega arith) ∙ p) in
@@ -145,7 +145,7 @@ module _ (t : List ℕ) (ok : check_of t ≡ Accepted) where
         let lb : length b ≡ size_of t j = ap length (sym v.1) ∙ entry_length t ok j h v.0 in
         ⊎_elim (λ x. inl (omega (arith, x, la, lb))) (λ x. inr (omega (arith, x, la, lb))) (apart-entries t apart i j l h alone u.0 v.0)
 
-    module _ (clean : (n : ℕ) (a : List ℕ) → n < entry_count → e n ≡ some a → Clean a) (apart : secrets_apart t ≡ true) where
+    module _ (clean : (n : ℕ) (a : List ℕ) → n < entry_count → e n ≡ Some a → Clean a) (apart : secrets_apart t ≡ true) where
       pub heap-bound : heap_size entry_count may_share e ≤ length_of t - heap_of t
       heap-bound =
           least-heap entry_count may_share e t (heap_of t) (length_of t) (λ (n : ℕ). offset_of t n) content-stands clean (content-apart apart)
@@ -167,8 +167,8 @@ module _ (t : List ℕ) (ok : check_of t ≡ Accepted) where
 -- The same for a table that reads as the record of c. `on` tells a structure that is present from one that is absent.
 module _
     (c : Content)
-    (on : Option (List ℕ) → Bool) (on_some : (a : List ℕ) → on (some a) ≡ true) (on_none : on none ≡ false)
-    (clean : (n : ℕ) (a : List ℕ) → n < entry_count → c.entry n ≡ some a → Clean a)
+    (on : Option (List ℕ) → Bool) (on_some : (a : List ℕ) → on (Some a) ≡ true) (on_none : on None ≡ false)
+    (clean : (n : ℕ) (a : List ℕ) → n < entry_count → c.entry n ≡ Some a → Clean a)
   where
     pub least-record : (t : List ℕ) → check_of t ≡ Accepted → record_of t ≡ listed c → keeps_order t ≡ true → secrets_apart t ≡ true
         → end_to (λ (i : ℕ). on (c.structure (built_slot i))) size_built

@@ -13,12 +13,11 @@ use lib.Dec.{ltb}
 use lib.ListN.{get_or}
 use Rattle.octets.specs.Octets.{byte}
 use Rattle.ibft_layout.specs.Layout.{slot_count, entry_count, named_count, owner_of, ibft_signature, control_at, least_length}
-use Rattle.table_header.specs.Verdict.{Test}
+use Rattle.table_header.specs.Verdict.{Test, Refused}
 use Rattle.ibft_table.specs.Table.{word_count, extra_words, start_at, used_at, starts_of, start_in, field_in, starts_to, start_of, holds_entry, field_of}
 use Rattle.table_header.specs.Header.{header_tests}
 use Rattle.ibft_table.specs.Check.{control_tests, named_tests, extra_tests, flag_tests, word_tests, overlap_tests, entry_tests, check_tests, check_of}
 use Rattle.table_header.specs.declared.verdict.Refusal.{Refusal}
-use Rattle.table_header.specs.declared.verdict.Verdict.TheVariants.{Refused}
 use Rattle.table_header.proofs.VerdictLaws.{Every, every-none, every-next, every_append, every-gather, every-cond, every-if, every_first}
 use Rattle.ibft_table_laws.proofs.LayoutLaws.{slot-fits, entry-fits, entry-inside}
 use Rattle.ibft_table.proofs.SeatLaws.{named-at}

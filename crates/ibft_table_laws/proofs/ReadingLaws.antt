@@ -14,9 +14,9 @@
 --     structure-gives, structure-fields, initiator-held, nic-index, ..   and shows
 --     entry_absent, entry-there, entry-held, entry-size, entry-words     the same of an entry
 -- Assumes nothing.
+use Rattle.std.specs.Prelude.{None, Some}
 use mathlib.Core.Path.{◌≡◌, refl, sym, ap, ap₂, ◌∙◌}
 use mathlib.Core.Bool.{Bool, true, false, not}
-use mathlib.Core.Option.{none, some}
 use mathlib.Core.List.{List, []}
 use Prim.Native.Nat.{ℕ, zero, suc, ◌+◌, ◌*◌, ◌≤◌, ◌<◌}
 use native.Mathlib.Decide.{dec_lt}
@@ -28,7 +28,7 @@ use Rattle.octets.specs.Octets.{byte, word16, part, differs}
 use Rattle.octets.proofs.ReadLaws.{bytes-part, part-from, part_at}
 use Rattle.octets.proofs.TestLaws.{and-other, or-both, differs-no}
 use Rattle.ibft_layout.specs.Layout.{Kind, initiator, nic, target, slot_count, entry_count, kind_of, owner_of, string_of, nic_slot, target_slot}
-use Rattle.table_header.specs.Verdict.{refusal, accepted, first_of, refusal_of, shown}
+use Rattle.table_header.specs.Verdict.{refusal, accepted, first_of, refusal_of, shown, Verdict, Accepted, Refused}
 use Rattle.ibft_table.specs.Table.{starts_of, index_in, field_in, size_in, offset_in, holds_in, start_of, present, size_of, offset_of, holds_entry}
 use Rattle.ibft_table.specs.Check.{check_tests, check_of}
 use Rattle.ibft_table.specs.Record.{Record, shown_if, body_size, listed, content_in, content_of, record_of}
@@ -39,8 +39,6 @@ use Rattle.ibft_readings.specs.Readings.{structure_view_of, initiator_of, nic_of
 use Rattle.ibft_readings.specs.Readings.{view_of}
 use Rattle.ibft_layout.specs.declared.string_words.StringWords.{StringWords}
 use Rattle.ibft_readings.specs.declared.entry.EntryReading.{EntryReading}
-use Rattle.table_header.specs.declared.verdict.Verdict.{Verdict}
-use Rattle.table_header.specs.declared.verdict.Verdict.TheVariants.{Accepted, Refused}
 use Rattle.ibft_table_laws.specs.Bodies.{initiator_fields, nic_fields, target_fields, initiator_body, nic_body, target_body, initiator_from, nic_from, target_from}
 use Rattle.table_header.proofs.VerdictLaws.{accept-cons, accept-none, pass-cons, fail-cons, append-accepted}
 use Rattle.ibft_table_laws.proofs.LayoutLaws.{slot-fits, entry-fits}
@@ -83,7 +81,7 @@ target-kind (suc (suc (suc (suc (suc (suc (suc (suc n)))))))) h = absurd (omega 
 -- ---- what a table's record holds, at every number: past the last slot and entry nothing, as nothing is present there
 
 module _ (t : List ℕ) where
-  pub structure-is : (k : ℕ) → get_or (record_of t).structures k none ≡ shown_if (present t k) (part t (start_of t k + 5) (body_size (kind_of k)))
+  pub structure-is : (k : ℕ) → get_or (record_of t).structures k None ≡ shown_if (present t k) (part t (start_of t k + 5) (body_size (kind_of k)))
   unfolding record_of content_of content_in
   structure-is k =
       elim (dec_lt k slot_count) [
@@ -93,7 +91,7 @@ module _ (t : List ℕ) where
             ∙ sym (ap (λ (b : Bool). shown_if b (part t (start_of t k + 5) (body_size (kind_of k)))) (present-past t k (omega arith)))
       ]
 
-  pub entry-is : (n : ℕ) → get_or (record_of t).entries n none ≡ shown_if (holds_entry t n) (part t (offset_of t n) (size_of t n))
+  pub entry-is : (n : ℕ) → get_or (record_of t).entries n None ≡ shown_if (holds_entry t n) (part t (offset_of t n) (size_of t n))
   unfolding record_of content_of content_in
   entry-is n =
       elim (dec_lt n entry_count) [
@@ -165,11 +163,11 @@ module _ (t : List ℕ) (ok : check_of t ≡ Accepted) where
     structure-shown = ap (λ (v : Verdict). shown v (drop (start_of t k) t)) (slot-verdict k k h on)
 
     -- the record's flags and fields are bytes 5 up to the first string word of what is shown
-    pub structure-body : get_or (record_of t).structures k none ≡ some (part (structure_at t k) 5 (body_size (kind_of k)))
+    pub structure-body : get_or (record_of t).structures k None ≡ Some (part (structure_at t k) 5 (body_size (kind_of k)))
     structure-body =
         structure-is t k
         ∙ ap (λ (b : Bool). shown_if b (part t (start_of t k + 5) (body_size (kind_of k)))) on
-        ∙ ap some (sym (ap (λ (l : List ℕ). part l 5 (body_size (kind_of k))) structure-shown ∙ part-from t (start_of t k) 5 (body_size (kind_of k))))
+        ∙ ap Some (sym (ap (λ (l : List ℕ). part l 5 (body_size (kind_of k))) structure-shown ∙ part-from t (start_of t k) 5 (body_size (kind_of k))))
 
     structure-long : (kind_of k).strings_at ≤ length (structure_at t k)
     structure-long =
@@ -186,7 +184,7 @@ module _ (t : List ℕ) (ok : check_of t ≡ Accepted) where
     structure-lt bytes i =
         omega (arith, ap (λ (l : List ℕ). byte l i) structure-shown, get_or-drop (start_of t k) t i 0, bytes (start_of t k + i))
 
-  pub structure-none : (k : ℕ) → k < slot_count → present t k ≡ false → get_or (record_of t).structures k none ≡ none
+  pub structure-none : (k : ℕ) → k < slot_count → present t k ≡ false → get_or (record_of t).structures k None ≡ None
   structure-none k h off =
       structure-is t k ∙ ap (λ (b : Bool). shown_if b (part t (start_of t k + 5) (body_size (kind_of k)))) off
 
@@ -197,42 +195,42 @@ module _ (t : List ℕ) (ok : check_of t ≡ Accepted) where
   -- Laid out again, the fields of a structure's reading are the record's. `lays` says so of the kind's own reading.
   gives : {R : Type 0} (k : ℕ) (kind : Kind) (read : List ℕ → R) (body : R → List ℕ) → kind_of k ≡ kind
       → ((p : List ℕ) → kind.strings_at ≤ length p → ((i : ℕ) → byte p i < 256) → body (read p) ≡ part p 5 (body_size kind))
-      → ((i : ℕ) → byte t i < 256) → k < slot_count → present t k ≡ true → get_or (record_of t).structures k none ≡ some (body (read (structure_at t k)))
+      → ((i : ℕ) → byte t i < 256) → k < slot_count → present t k ≡ true → get_or (record_of t).structures k None ≡ Some (body (read (structure_at t k)))
   gives k kind read body is lays bytes h on =
       structure-body k h on
-      ∙ ap (λ (κ : Kind). some (part (structure_at t k) 5 (body_size κ))) is
-      ∙ ap some (sym (lays (structure_at t k) (rw is at (structure-long k h on)) (structure-lt k h on bytes)))
+      ∙ ap (λ (κ : Kind). Some (part (structure_at t k) 5 (body_size κ))) is
+      ∙ ap Some (sym (lays (structure_at t k) (rw is at (structure-long k h on)) (structure-lt k h on bytes)))
 
   pub initiator-gives : ((i : ℕ) → byte t i < 256) → present t 0 ≡ true
-      → get_or (record_of t).structures 0 none ≡ some (initiator_body (initiator_of t).fields)
+      → get_or (record_of t).structures 0 None ≡ Some (initiator_body (initiator_of t).fields)
   unfolding initiator_of
   initiator-gives bytes on = gives 0 initiator initiator_in initiator_body initiator-kind (λ p long b. initiator-laid p long) bytes (omega arith) on
 
   module _ (n : ℕ) (bytes : (i : ℕ) → byte t i < 256) where
     pub nic-gives : nic_slot n < slot_count → present t (nic_slot n) ≡ true
-        → get_or (record_of t).structures (nic_slot n) none ≡ some (nic_body (nic_of t n).fields)
+        → get_or (record_of t).structures (nic_slot n) None ≡ Some (nic_body (nic_of t n).fields)
     unfolding nic_of
     nic-gives h on = gives (nic_slot n) nic nic_in nic_body (nic-kind n h) nic-laid bytes h on
 
     pub target-gives : target_slot n < slot_count → present t (target_slot n) ≡ true
-        → get_or (record_of t).structures (target_slot n) none ≡ some (target_body (target_of t n).fields)
+        → get_or (record_of t).structures (target_slot n) None ≡ Some (target_body (target_of t n).fields)
     unfolding target_of
     target-gives h on = gives (target_slot n) target target_in target_body (target-kind n h) target-laid bytes h on
 
   -- ---- entries
 
   module _ (n : ℕ) (h : n < entry_count) where
-    pub entry-none : holds_entry t n ≡ false → get_or (record_of t).entries n none ≡ none
+    pub entry-none : holds_entry t n ≡ false → get_or (record_of t).entries n None ≡ None
     entry-none off = entry-is t n ∙ ap (λ (b : Bool). shown_if b (part t (offset_of t n) (size_of t n))) off
 
     module _ (on : holds_entry t n ≡ true) (number : ℕ) (l : number < entry_count) (is : entry_called (starts_of t) number ≡ n) where
       -- its view is the record's entry
-      pub entry_gives : get_or (record_of t).entries n none ≡ some (view_of t number)
+      pub entry_gives : get_or (record_of t).entries n None ≡ Some (view_of t number)
       unfolding view_of view_got shown
       entry_gives =
           entry-is t n
           ∙ ap (λ (b : Bool). shown_if b (part t (offset_of t n) (size_of t n))) on
-          ∙ ap some
+          ∙ ap Some
           (sym
           (ap (λ (j : ℕ). shown (entry_verdict (starts_of t) t number j) (part t (offset_of t j) (size_of t j))) is
           ∙ ap (λ (v : Verdict). shown v (part t (offset_of t n) (size_of t n))) (entry-verdict number n l on)))
@@ -261,7 +259,7 @@ module _ (t : List ℕ) (ok : check_of t ≡ Accepted) where
 
 module _ (t : List ℕ) (ok : check_of t ≡ Accepted) where
   -- slot k's structure
-  module _ (k : ℕ) (body : List ℕ) (holds : get_or (record_of t).structures k none ≡ some body) where
+  module _ (k : ℕ) (body : List ℕ) (holds : get_or (record_of t).structures k None ≡ Some body) where
     held-body : (present t k ≡ true) × (part t (start_of t k + 5) (body_size (kind_of k)) ≡ body)
     held-body = shown-some (present t k) _ body (sym (structure-is t k) ∙ holds)
 
@@ -284,10 +282,10 @@ module _ (t : List ℕ) (ok : check_of t ≡ Accepted) where
 
   -- and what is answered and shown of it where it is asked for by a number
   module _ (number k : ℕ) (l : number < slot_count) where
-    pub structure-absent : get_or (record_of t).structures k none ≡ none → slot_verdict (starts_of t) t number k ≡ Refused (refusal 22 0)
+    pub structure-absent : get_or (record_of t).structures k None ≡ None → slot_verdict (starts_of t) t number k ≡ Refused (refusal 22 0)
     structure-absent e = slot-missing t ok number k l (shown-none (present t k) _ (sym (structure-is t k) ∙ e))
 
-    module _ (body : List ℕ) (holds : get_or (record_of t).structures k none ≡ some body) where
+    module _ (body : List ℕ) (holds : get_or (record_of t).structures k None ≡ Some body) where
       pub structure-there : slot_verdict (starts_of t) t number k ≡ Accepted
       structure-there = slot-verdict t ok number k l (structure-on k body holds)
 
@@ -323,7 +321,7 @@ module _ (t : List ℕ) (ok : check_of t ≡ Accepted) where
             ap (λ (j : ℕ). part (structure_in (starts_of t) t (slot_verdict (starts_of t) t number j) j) 5 (body_size (kind_of k))) is ∙ shown-fields
 
   -- what a kind's reading shows is what `from` reads of the flags and fields
-  held : {R : Type 0} (k : ℕ) (h : k < slot_count) (body : List ℕ) → get_or (record_of t).structures k none ≡ some body
+  held : {R : Type 0} (k : ℕ) (h : k < slot_count) (body : List ℕ) → get_or (record_of t).structures k None ≡ Some body
       → (kind : Kind) (read : List ℕ → R) (from : List ℕ → R) → kind_of k ≡ kind
       → ((p : List ℕ) → kind.strings_at ≤ length p → from (part p 5 (body_size kind)) ≡ read p)
       → read (structure_at t k) ≡ from body
@@ -332,52 +330,52 @@ module _ (t : List ℕ) (ok : check_of t ≡ Accepted) where
       ∙ ap (λ (κ : Kind). from (part (structure_at t k) 5 (body_size κ))) (sym is)
       ∙ ap from (shown-fields k k h body holds)
 
-  pub initiator-held : (body : List ℕ) → get_or (record_of t).structures 0 none ≡ some body → initiator_fields (initiator_of t).fields ≡ initiator_from body
+  pub initiator-held : (body : List ℕ) → get_or (record_of t).structures 0 None ≡ Some body → initiator_fields (initiator_of t).fields ≡ initiator_from body
   unfolding initiator_of
   initiator-held body holds =
       held 0 (omega arith) body holds initiator (λ (p : List ℕ). initiator_fields (initiator_in p)) initiator_from initiator-kind initiator-read
 
   module _ (n : ℕ) (body : List ℕ) where
-    pub nic-held : nic_slot n < slot_count → get_or (record_of t).structures (nic_slot n) none ≡ some body → nic_fields (nic_of t n).fields ≡ nic_from body
+    pub nic-held : nic_slot n < slot_count → get_or (record_of t).structures (nic_slot n) None ≡ Some body → nic_fields (nic_of t n).fields ≡ nic_from body
     unfolding nic_of
     nic-held h holds = held (nic_slot n) h body holds nic (λ (p : List ℕ). nic_fields (nic_in p)) nic_from (nic-kind n h) nic-read
 
-    pub target-held : target_slot n < slot_count → get_or (record_of t).structures (target_slot n) none ≡ some body
+    pub target-held : target_slot n < slot_count → get_or (record_of t).structures (target_slot n) None ≡ Some body
         → target_fields (target_of t n).fields ≡ target_from body
     unfolding target_of
     target-held h holds = held (target_slot n) h body holds target (λ (p : List ℕ). target_fields (target_in p)) target_from (target-kind n h) target-read
 
   -- and its Index is the record's
-  held-index : (k : ℕ) (h : k < slot_count) (body : List ℕ) → get_or (record_of t).structures k none ≡ some body
+  held-index : (k : ℕ) (h : k < slot_count) (body : List ℕ) → get_or (record_of t).structures k None ≡ Some body
       → index_shown (starts_of t) t (verdict_at t k) k ≡ get_or (record_of t).indices k 0
   unfolding index_shown
   held-index k h body holds =
       ap (λ (v : Verdict). index_shown (starts_of t) t v k) (structure-there k k h body holds) ∙ structure-index k body holds
 
   module _ (n : ℕ) (body : List ℕ) where
-    pub nic-index : nic_slot n < slot_count → get_or (record_of t).structures (nic_slot n) none ≡ some body
+    pub nic-index : nic_slot n < slot_count → get_or (record_of t).structures (nic_slot n) None ≡ Some body
         → (nic_of t n).index ≡ get_or (record_of t).indices (nic_slot n) 0
     unfolding nic_of
     nic-index h holds = held-index (nic_slot n) h body holds
 
-    pub target-index : target_slot n < slot_count → get_or (record_of t).structures (target_slot n) none ≡ some body
+    pub target-index : target_slot n < slot_count → get_or (record_of t).structures (target_slot n) None ≡ Some body
         → (target_of t n).index ≡ get_or (record_of t).indices (target_slot n) 0
     unfolding target_of
     target-index h holds = held-index (target_slot n) h body holds
 
   -- an entry, asked for by a number
-  held-entry : (n : ℕ) (bytes : List ℕ) → get_or (record_of t).entries n none ≡ some bytes
+  held-entry : (n : ℕ) (bytes : List ℕ) → get_or (record_of t).entries n None ≡ Some bytes
       → (holds_entry t n ≡ true) × (part t (offset_of t n) (size_of t n) ≡ bytes)
   held-entry n bytes holds = shown-some (holds_entry t n) _ bytes (sym (entry-is t n) ∙ holds)
 
-  pub entry-on : (n : ℕ) (bytes : List ℕ) → get_or (record_of t).entries n none ≡ some bytes → holds_entry t n ≡ true
+  pub entry-on : (n : ℕ) (bytes : List ℕ) → get_or (record_of t).entries n None ≡ Some bytes → holds_entry t n ≡ true
   entry-on n bytes holds = (held-entry n bytes holds).0
 
   module _ (number n : ℕ) (l : number < entry_count) where
-    pub entry_absent : get_or (record_of t).entries n none ≡ none → entry_verdict (starts_of t) t number n ≡ Refused (refusal 22 0)
+    pub entry_absent : get_or (record_of t).entries n None ≡ None → entry_verdict (starts_of t) t number n ≡ Refused (refusal 22 0)
     entry_absent e = entry-missing t ok number n l (shown-none (holds_entry t n) _ (sym (entry-is t n) ∙ e))
 
-    module _ (bytes : List ℕ) (holds : get_or (record_of t).entries n none ≡ some bytes) where
+    module _ (bytes : List ℕ) (holds : get_or (record_of t).entries n None ≡ Some bytes) where
       pub entry-there : entry_verdict (starts_of t) t number n ≡ Accepted
       entry-there = entry-verdict t ok number n l (entry-on n bytes holds)
 
@@ -435,9 +433,9 @@ module _ (t u : List ℕ) (ok : check_of t ≡ Accepted) (ok' : check_of u ≡ A
       body on on' =
           let a = structure-body t ok k h on in
           let b = structure-body u ok' k h on' in
-          rw is at (only (sym a ∙ ap (λ (r : Record). get_or r.structures k none) e ∙ b))
+          rw is at (only (sym a ∙ ap (λ (r : Record). get_or r.structures k None) e ∙ b))
         where
-          only : {x y : List ℕ} → some x ≡ some y → x ≡ y
+          only : {x y : List ℕ} → Some x ≡ Some y → x ≡ y
           only q = cc
 
       go : (b : Bool) → present t k ≡ b → read (structure_at t k) ≡ read (structure_at u k)

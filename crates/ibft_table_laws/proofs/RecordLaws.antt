@@ -6,9 +6,9 @@
 --     table-entry-some                         a table's entry, by what is shown
 --     table-presence-same, table-body-same, table-holds-same, table-entry-same     two tables with equal records
 -- Assumes nothing.
+use Rattle.std.specs.Prelude.{None, Some}
 use mathlib.Core.Path.{◌≡◌, refl, ap}
 use mathlib.Core.Bool.{Bool, true, false}
-use mathlib.Core.Option.{none, some}
 use mathlib.Core.List.{List}
 use Prim.Native.Nat.{ℕ, ◌+◌, ◌≤◌, ◌<◌}
 use native.Mathlib.Omega.{arith}
@@ -22,11 +22,11 @@ use Rattle.octets.proofs.CountingLaws.{get_d_tabulate, tabulate-past, tabulate-s
 
 -- ---- what is shown only where it is there
 
-pub shown-some : (b : Bool) (x a : List ℕ) → shown_if b x ≡ some a → (b ≡ true) × (x ≡ a)
+pub shown-some : (b : Bool) (x a : List ℕ) → shown_if b x ≡ Some a → (b ≡ true) × (x ≡ a)
 shown-some true x a e = (refl, cc)
 shown-some false x a e = absurd (let z : ◌≡◌ {A = ℕ} 0 1 = cc in omega arith)
 
-pub shown-none : (b : Bool) (x : List ℕ) → shown_if b x ≡ none → b ≡ false
+pub shown-none : (b : Bool) (x : List ℕ) → shown_if b x ≡ None → b ≡ false
 shown-none false x e = refl
 shown-none true x e = absurd (let z : ◌≡◌ {A = ℕ} 0 1 = cc in omega arith)
 
@@ -43,25 +43,25 @@ shown-same b false x y e h = rw e
 -- ---- listings
 
 module _ (c : Content) where
-  pub structure-listed : (k : ℕ) → k < slot_count → get_or (listed c).structures k none ≡ c.structure k
+  pub structure-listed : (k : ℕ) → k < slot_count → get_or (listed c).structures k None ≡ c.structure k
   unfolding listed
-  structure-listed k h = get_d_tabulate c.structure slot_count k none h
+  structure-listed k h = get_d_tabulate c.structure slot_count k None h
 
-  pub entry_listed : (n : ℕ) → n < entry_count → get_or (listed c).entries n none ≡ c.entry n
+  pub entry_listed : (n : ℕ) → n < entry_count → get_or (listed c).entries n None ≡ c.entry n
   unfolding listed
-  entry_listed n h = get_d_tabulate c.entry entry_count n none h
+  entry_listed n h = get_d_tabulate c.entry entry_count n None h
 
   pub index_listed : (k : ℕ) → k < slot_count → get_or (listed c).indices k 0 ≡ c.index k
   unfolding listed
   index_listed k h = get_d_tabulate c.index slot_count k 0 h
 
-  pub structure-past : (k : ℕ) → slot_count ≤ k → get_or (listed c).structures k none ≡ none
+  pub structure-past : (k : ℕ) → slot_count ≤ k → get_or (listed c).structures k None ≡ None
   unfolding listed
-  structure-past k h = tabulate-past c.structure slot_count k none h
+  structure-past k h = tabulate-past c.structure slot_count k None h
 
-  pub entry_past : (n : ℕ) → entry_count ≤ n → get_or (listed c).entries n none ≡ none
+  pub entry_past : (n : ℕ) → entry_count ≤ n → get_or (listed c).entries n None ≡ None
   unfolding listed
-  entry_past n h = tabulate-past c.entry entry_count n none h
+  entry_past n h = tabulate-past c.entry entry_count n None h
 
 module _ (c d : Content) where
   pub same-listed : SameContent c d → listed c ≡ listed d
@@ -93,7 +93,7 @@ module _ (c d : Content) where
 -- ---- a table's content
 
 module _ (t : List ℕ) where
-  pub table-entry-some : (n : ℕ) (a : List ℕ) → (content_of t).entry n ≡ some a → (holds_entry t n ≡ true) × (part t (offset_of t n) (size_of t n) ≡ a)
+  pub table-entry-some : (n : ℕ) (a : List ℕ) → (content_of t).entry n ≡ Some a → (holds_entry t n ≡ true) × (part t (offset_of t n) (size_of t n) ≡ a)
   unfolding content_of content_in
   table-entry-some n a e = shown-some (holds_entry t n) _ a e
 

@@ -23,7 +23,7 @@ use Rattle.table_header.specs.Header.{length_of}
 use Rattle.ibft_table.specs.Table.{extra_words, starts_to, starts_of, start_in, present_in, start_of, present, end_in, end_of, heap_of, field_in}
 use Rattle.ibft_table.specs.Table.{field_of, size_of, offset_of, holds_in, holds_entry}
 use Rattle.ibft_table.specs.Check.{check_of}
-use Rattle.table_header.specs.declared.verdict.Verdict.TheVariants.{Accepted}
+use Rattle.table_header.specs.Verdict.{Accepted}
 use Rattle.ibft_table_laws.specs.Facts.{SlotFacts, EntryFacts, Disjoint, Facts}
 use Rattle.octets.proofs.TestLaws.{and_both, same_differs}
 use Rattle.ibft_table.proofs.SeatLaws.{starts-length}

@@ -5,10 +5,10 @@
 --     text-length, text-some, text-lacks a text has 1 to 39 bytes, and in it is no byte but digits, dots and colons
 --     longest-zero                       the longest run lies within the groups, and its groups are zero
 -- Assumes nothing.
+use Rattle.std.specs.Prelude.{Option, Some}
 use mathlib.Core.Path.{◌≡◌, refl, sym, ap, ap₂, ◌∙◌}
 use mathlib.Core.Bool.{Bool, true, false, cond, ◌&&◌, and-false}
 use mathlib.Core.List.{List, [], ◌∷◌, ◌++◌, append_assoc, append-nil}
-use mathlib.Core.Option.{Option, some}
 use Prim.Native.Nat.{ℕ, zero, suc, ◌+◌, ◌-◌, ◌*◌, ◌/◌, ◌%◌, ◌≤◌, ◌<◌, ◌^◌}
 use native.Mathlib.Nat.{add-zero, zero-add}
 use native.Mathlib.Omega.{arith}
@@ -73,31 +73,31 @@ colon-none : any 16 (λ (d : ℕ). is colon (digit_byte d)) ≡ false
 unfolding any first tabulate digit_byte
 colon-none = refl
 
-short_back : (base most max v : ℕ) → 1 < base → base ≤ 16 → v < base ^ suc most → v ≤ max → short base (suc most) max (digits base v) ≡ some v
+short_back : (base most max v : ℕ) → 1 < base → base ≤ 16 → v < base ^ suc most → v ≤ max → short base (suc most) max (digits base v) ≡ Some v
 unfolding short
 short_back base most max v low high small least =
     rw (le-leb (length (digits base v)) (suc most) (digits-length base low most v small), numeral-digits base low high v)
     (below-yes (max + 1) v (omega arith))
 
-decimal-back : (v : ℕ) → v < 256 → decimal (digits 10 v) ≡ some (v ∷ [])
+decimal-back : (v : ℕ) → v < 256 → decimal (digits 10 v) ≡ Some (v ∷ [])
 unfolding decimal
 decimal-back v h = ap one_byte (short_back 10 2 255 v (omega arith) (omega arith) (omega arith) (omega arith))
 
-group-back : (v : ℕ) → v < 65536 → group (digits 16 v) ≡ some (v / 256 ∷ v % 256 ∷ [])
+group-back : (v : ℕ) → v < 65536 → group (digits 16 v) ≡ Some (v / 256 ∷ v % 256 ∷ [])
 unfolding group
 group-back v h = ap two_bytes (short_back 16 3 65535 v (omega arith) (omega arith) (omega arith) (omega arith))
 
-last-back : (four : Bool) (v : ℕ) → v < 65536 → last_group four (digits 16 v) ≡ some (v / 256 ∷ v % 256 ∷ [])
+last-back : (four : Bool) (v : ℕ) → v < 65536 → last_group four (digits 16 v) ≡ Some (v / 256 ∷ v % 256 ∷ [])
 unfolding last_group
 last-back four v h =
     rw (holds-no dot (digits 16 v) (digits-lack 16 (omega arith) (omega arith) (is dot) dot-none v), and-false four) (group-back v h)
 
 -- ---- a list of numbers
 
-bytes_of-tabulate : (rule last : List ℕ → Option (List ℕ)) (d e : ℕ → List ℕ) → ((j : ℕ) → rule (d j) ≡ some (e j)) → ((j : ℕ) → last (d j) ≡ some (e j))
-    → (k n : ℕ) → bytes_of rule last (tabulate d k (suc n)) ≡ some (gather e k (suc n))
+bytes_of-tabulate : (rule last : List ℕ → Option (List ℕ)) (d e : ℕ → List ℕ) → ((j : ℕ) → rule (d j) ≡ Some (e j)) → ((j : ℕ) → last (d j) ≡ Some (e j))
+    → (k n : ℕ) → bytes_of rule last (tabulate d k (suc n)) ≡ Some (gather e k (suc n))
 unfolding bytes_of tabulate gather
-bytes_of-tabulate rule last d e one end k zero = end k ∙ ap some (sym (append-nil (e k)))
+bytes_of-tabulate rule last d e one end k zero = end k ∙ ap Some (sym (append-nil (e k)))
 bytes_of-tabulate rule last d e one end k (suc n) = ap₂ both (one k) (bytes_of-tabulate rule last d e one end (suc k) n)
 
 -- ---- the first `::`
@@ -244,14 +244,14 @@ module _ (a : List ℕ) (size : length a ≡ 16) (small : (i : ℕ) → byte a i
   group-lt : (j : ℕ) → group_at a j < 65536
   group-lt j = omega (arith, small (2 * j), small (2 * j + 1))
 
-  halves : (j : ℕ) → some (group_at a j / 256 ∷ group_at a j % 256 ∷ []) ≡ some (two a j)
+  halves : (j : ℕ) → Some (group_at a j / 256 ∷ group_at a j % 256 ∷ []) ≡ Some (two a j)
   unfolding two
   halves j =
       let high : group_at a j / 256 ≡ byte a (2 * j) = omega (arith, small (2 * j + 1)) in
       let low : group_at a j % 256 ≡ byte a (2 * j + 1) = omega (arith, small (2 * j + 1)) in
       rw (high, low)
 
-  groups-back : (four : Bool) (k n : ℕ) → groups four (groups_text a k (suc n)) ≡ some (gather (two a) k (suc n))
+  groups-back : (four : Bool) (k n : ℕ) → groups four (groups_text a k (suc n)) ≡ Some (gather (two a) k (suc n))
   unfolding groups groups_text
   groups-back four k n =
       rw (pieces-listed colon (hex_text a) (hex-lacks a (is colon) colon-none) k n)
@@ -259,7 +259,7 @@ module _ (a : List ℕ) (size : length a ≡ 16) (small : (i : ℕ) → byte a i
       (λ j. group-back (group_at a j) (group-lt j) ∙ halves j)
       (λ j. last-back four (group_at a j) (group-lt j) ∙ halves j) k n)
 
-  side-back : (four : Bool) (k n : ℕ) → side four (groups_text a k n) ≡ some (gather (two a) k n)
+  side-back : (four : Bool) (k n : ℕ) → side four (groups_text a k n) ≡ Some (gather (two a) k n)
   unfolding side groups_text gather join tabulate
   side-back four k zero = refl
   side-back four k (suc n) =
@@ -278,7 +278,7 @@ module _ (a : List ℕ) (size : length a ≡ 16) (small : (i : ℕ) → byte a i
   unfolding groups_text join tabulate
   has-colon = holds-yes colon (digits 16 (group_at a 0)) (groups_text a 1 7)
 
-  plain_back : read_address (groups_text a 0 8) ≡ some a
+  plain_back : read_address (groups_text a 0 8) ≡ Some a
   unfolding read_address read_six without_gap
   plain_back =
       rw (
@@ -291,7 +291,7 @@ module _ (a : List ℕ) (size : length a ≡ 16) (small : (i : ℕ) → byte a i
 
   -- IPv6 with `::` for the run r
   gap_back : (r : Run) → ZeroRun a 0 8 r → 1 < r.size
-      → read_address (gap_text a r) ≡ some a
+      → read_address (gap_text a r) ≡ Some a
   unfolding read_address read_six with_gap
   gap_back r z long =
       rw (
@@ -309,7 +309,7 @@ module _ (a : List ℕ) (size : length a ≡ 16) (small : (i : ℕ) → byte a i
         ← zero-two a r.start r.size z.zero-groups,
         ← gather_append (two a) r.start r.size left,
       )
-      (ap some (sym parts ∙ ap (gather (two a) 0) all ∙ whole))
+      (ap Some (sym parts ∙ ap (gather (two a) 0) all ∙ whole))
     where
       left : ℕ
       left = 8 - (r.start + r.size)
@@ -342,7 +342,7 @@ module _ (a : List ℕ) (size : length a ≡ 16) (small : (i : ℕ) → byte a i
   unfoldable one : ℕ → List ℕ
   one j = byte a j ∷ []
 
-  four-back : four_bytes (four_text a) ≡ some (gather one 12 4)
+  four-back : four_bytes (four_text a) ≡ Some (gather one 12 4)
   unfolding four_bytes four_text gather one
   four-back =
       rw (
@@ -368,13 +368,13 @@ module _ (a : List ℕ) (size : length a ≡ 16) (small : (i : ℕ) → byte a i
       rest : byte a 10 ≡ 255 → byte a 11 ≡ 255 → gather (two a) 5 3 ≡ 255 ∷ 255 ∷ gather one 12 4
       rest high low = rw (high, low)
 
-  mapped-back : is_mapped a ≡ true → read_address (four_text a) ≡ some a
+  mapped-back : is_mapped a ≡ true → read_address (four_text a) ≡ Some a
   unfolding read_address
-  mapped-back e = rw (four-plain, four-back) (ap some (mapped-is e))
+  mapped-back e = rw (four-plain, four-back) (ap Some (mapped-is e))
 
   -- the text of an address, read, is the address
-  pub address-back : read_address (address_text a) ≡ some a
-  address-back = text-cases a (λ (t : List ℕ). read_address t ≡ some a) mapped-back gap_back plain_back
+  pub address-back : read_address (address_text a) ≡ Some a
+  address-back = text-cases a (λ (t : List ℕ). read_address t ≡ Some a) mapped-back gap_back plain_back
 
   -- it has at most 39 bytes
   hex-short : (j : ℕ) → length (hex_text a j) ≤ 4

@@ -10,10 +10,11 @@
 --     text-nonempty, text-length     how long that text is
 --     text-line, text-whole          it has no line feed, and no blank at its ends
 -- Assumes nothing.
-use mathlib.Core.Path.{◌≡◌, refl, sym, ap, ◌∙◌}
+use Rattle.octets.specs.Options.{bind}
+use Rattle.std.specs.Prelude.{Option, None, Some, option_map, unwrap_or}
+use mathlib.Core.Path.{◌≡◌, refl, sym, ap, subst, ◌∙◌}
 use mathlib.Core.List.{List, [], ◌∷◌, ◌++◌, append_assoc, append-nil}
 use mathlib.Core.Bool.{Bool, true, false, cond, ◌&&◌, and-false}
-use mathlib.Core.Option.{Option, none, some, map, bind}
 use Prim.Native.Nat.{ℕ, zero, suc, ◌+◌, ◌*◌, ◌<◌, ◌≤◌}
 use Prim.Native.Char.{code}
 use native.Mathlib.Nat.{add-zero, zero-add}
@@ -33,15 +34,12 @@ use Rattle.text.specs.Put.{Puts}
 use Rattle.text.specs.Split.{is_blank, is, before, blanks, trim_end, trim, each, lacks}
 use Rattle.text.proofs.SplitLaws.{trim_end-whole, trim_end-append, trim-whole, blanks-append}
 use Rattle.text.proofs.PutLaws.{puts-nothing, puts-length, puts-within, puts-append, puts-same}
-use Rattle.notation.specs.Number.{within, below, hex_digit, digit, value_from, numeral, hex_byte_at, answer, digit_byte, padded}
-use Rattle.notation.specs.Escape.{backslash, quote, bare, joined, bytes_of, escaped, numbered, is_quotes, string_of, answer_of, content_of}
+use Rattle.notation.specs.Number.{within, below, hex_digit, digit, value_from, numeral, hex_byte_at, digit_byte, padded}
+use Rattle.notation.specs.Escape.{backslash, quote, bare, joined, bytes_of, escaped, numbered, is_quotes, string_of, content_of}
 use Rattle.notation.specs.Escape.{first_shown, shown, byte_text, is_inner, text_at, string_text}
-use Rattle.notation.specs.EscapeWalk.{Begins}
-use Rattle.notation.specs.declared.number.Number.TheVariants.{Value, Bad as BadNumber}
+use Rattle.notation.specs.EscapeWalk.{IsPiece, Begins}
 use Rattle.notation.specs.declared.escape.Piece.{Piece}
-use Rattle.notation.specs.declared.escape.Decoded.{Decoded}
-use Rattle.notation.specs.declared.escape.Decoded.TheVariants.{Length, Bad}
-use Rattle.notation.proofs.NumberLaws.{answer-value, answer-bad, numeral-padded, Each, padded-each, padded-length}
+use Rattle.notation.proofs.NumberLaws.{numeral-padded, Each, padded-each, padded-length}
 
 -- ---- what stands at i
 
@@ -57,19 +55,19 @@ module _ (t : List ℕ) (i : ℕ) where
   bytes-at : i < length t
       → bytes_of (drop i t)
       ≡ cond (eqb (byte t i) backslash) (escaped (drop (i + 1) t))
-      (cond (bare (byte t i)) (joined (some (byte t i)) (bytes_of (drop (i + 1) t))) none)
+      (cond (bare (byte t i)) (joined (Some (byte t i)) (bytes_of (drop (i + 1) t))) None)
   unfolding bytes_of
   bytes-at h = rw (drop-cons t i 0, add-one)
 
-  bytes-end : length t ≤ i → bytes_of (drop i t) ≡ some []
+  bytes-end : length t ≤ i → bytes_of (drop i t) ≡ Some []
   unfolding bytes_of
   bytes-end h = rw drop_of_length-le
 
 -- behind a backslash at i. (Past the end a byte reads as 0, which is neither a backslash nor x.)
 escaped-at : (t : List ℕ) (i : ℕ)
     → escaped (drop (i + 1) t)
-    ≡ cond (eqb (byte t (i + 1)) backslash) (joined (some backslash) (bytes_of (drop (i + 2) t)))
-    (cond (eqb (byte t (i + 1)) (code "x")) (numbered (drop (i + 2) t)) none)
+    ≡ cond (eqb (byte t (i + 1)) backslash) (joined (Some backslash) (bytes_of (drop (i + 2) t)))
+    (cond (eqb (byte t (i + 1)) (code "x")) (numbered (drop (i + 2) t)) None)
 unfolding bytes_of
 escaped-at t i =
     elim (dec_lt (i + 1) (length t)) [
@@ -82,15 +80,15 @@ escaped-at t i =
     ]
 
 -- behind `\x` at i. (A byte past the end is no digit either.)
-number_past : (t : List ℕ) (i : ℕ) → length t ≤ i + 1 → hex_byte_at t i ≡ none
+number_past : (t : List ℕ) (i : ℕ) → length t ≤ i + 1 → hex_byte_at t i ≡ None
 unfolding numeral value_from bind digit below hex_digit
 number_past t i h = rw (← byte_past t (i + 1) h) (go (digit 16 (byte t i)))
   where
-    go : (o : Option ℕ) → bind {B = ℕ} (map (λ (d : ℕ). 0 * 16 + d) o) (λ (n : ℕ). none) ≡ none
-    go none = refl
-    go (some d) = refl
+    go : (o : Option ℕ) → bind {B = ℕ} (option_map (λ (d : ℕ). 0 * 16 + d) o) (λ (n : ℕ). None) ≡ None
+    go None = refl
+    go (Some d) = refl
 
-number-inside : (t : List ℕ) (i v : ℕ) → hex_byte_at t i ≡ some v → i + 1 < length t
+number-inside : (t : List ℕ) (i v : ℕ) → hex_byte_at t i ≡ Some v → i + 1 < length t
 number-inside t i v e =
     elim (dec_lt (i + 1) (length t)) [
       | yes h ↦ h
@@ -100,7 +98,7 @@ number-inside t i v e =
           absurd (omega arith)
     ]
 
-numbered-few : (t : List ℕ) → length t ≤ 1 → numbered t ≡ none
+numbered-few : (t : List ℕ) → length t ≤ 1 → numbered t ≡ None
 unfolding bytes_of
 numbered-few [] h = refl
 numbered-few (a ∷ []) h = refl
@@ -122,58 +120,53 @@ numbered-at t i =
 
 -- ---- the piece at i, one law for each answer of the code
 
-begins : (t : List ℕ) (m : Option (List ℕ)) (i n b : ℕ) → 0 < n → i + n ≤ length t → m ≡ joined (some b) (bytes_of (drop (i + n) t))
-    → Begins t m i (record { size = n; byte = b })
-begins t m i n b some_bytes h e = record { within = h; stands = λ l. e; broken = λ z. absurd (omega arith) }
-
-begins-none : (t : List ℕ) (m : Option (List ℕ)) (i : ℕ) → i ≤ length t → m ≡ none → Begins t m i (record { size = 0; byte = 0 })
-begins-none t m i h e = record { within = omega arith; stands = λ l. absurd (omega arith); broken = λ z. e }
+stands : (t : List ℕ) (m : Option (List ℕ)) (i n b : ℕ) → 0 < n → i + n ≤ length t → m ≡ joined (Some b) (bytes_of (drop (i + n) t))
+    → IsPiece t m i (record { size = n; byte = b })
+stands t m i n b some_bytes h e = record { some_bytes = some_bytes; within = h; meant = e }
 
 -- where two meanings are the same
-begins-same : (t : List ℕ) (m m' : Option (List ℕ)) (i : ℕ) (p : Piece) → m ≡ m' → Begins t m' i p → Begins t m i p
-begins-same t m m' i p e b = record { within = b.within; stands = λ l. e ∙ b.stands l; broken = λ z. e ∙ b.broken z }
+begins-same : (t : List ℕ) (m m' : Option (List ℕ)) (i : ℕ) (o : Option Piece) → m ≡ m' → Begins t m' i o → Begins t m i o
+begins-same t m m' i o e b = subst (λ (x : Option (List ℕ)). Begins t x i o) (sym e) b
 
 module _ (t : List ℕ) (i : ℕ) (lies : i < length t) where
-  pub begins-escape : (p : Piece) → byte t i ≡ backslash → Begins t (escaped (drop (i + 1) t)) i p → Begins t (bytes_of (drop i t)) i p
-  begins-escape p e = begins-same t _ _ i p (rw (eq-eqb (byte t i) backslash e) at (bytes-at t i lies))
+  pub begins-escape : (o : Option Piece) → byte t i ≡ backslash → Begins t (escaped (drop (i + 1) t)) i o → Begins t (bytes_of (drop i t)) i o
+  begins-escape o e = begins-same t _ _ i o (rw (eq-eqb (byte t i) backslash e) at (bytes-at t i lies))
 
-  pub begins-bare : (byte t i ≡ backslash → ⊥) → bare (byte t i) ≡ true → Begins t (bytes_of (drop i t)) i (record { size = 1; byte = byte t i })
-  begins-bare e f = begins t _ i 1 (byte t i) (omega arith) (omega arith) (rw (ne_eqb (byte t i) backslash e, f) at (bytes-at t i lies))
+  pub begins-bare : (byte t i ≡ backslash → ⊥) → bare (byte t i) ≡ true → IsPiece t (bytes_of (drop i t)) i (record { size = 1; byte = byte t i })
+  begins-bare e f = stands t _ i 1 (byte t i) (omega arith) (omega arith) (rw (ne_eqb (byte t i) backslash e, f) at (bytes-at t i lies))
 
-  pub begins-control : (byte t i ≡ backslash → ⊥) → bare (byte t i) ≡ false → Begins t (bytes_of (drop i t)) i (record { size = 0; byte = 0 })
-  begins-control e f = begins-none t _ i (omega arith) (rw (ne_eqb (byte t i) backslash e, f) at (bytes-at t i lies))
+  pub begins-control : (byte t i ≡ backslash → ⊥) → bare (byte t i) ≡ false → bytes_of (drop i t) ≡ None
+  begins-control e f = rw (ne_eqb (byte t i) backslash e, f) at (bytes-at t i lies)
 
   -- behind a backslash at i
-  pub begins-backslash : byte t (i + 1) ≡ backslash → Begins t (escaped (drop (i + 1) t)) i (record { size = 2; byte = backslash })
+  pub begins-backslash : byte t (i + 1) ≡ backslash → IsPiece t (escaped (drop (i + 1) t)) i (record { size = 2; byte = backslash })
   begins-backslash e =
       let l : i + 1 < length t = inside t (i + 1) (omega arith) in
-      begins t _ i 2 backslash (omega arith) (omega arith) (rw (eq-eqb (byte t (i + 1)) backslash e) at (escaped-at t i))
+      stands t _ i 2 backslash (omega arith) (omega arith) (rw (eq-eqb (byte t (i + 1)) backslash e) at (escaped-at t i))
 
-  pub begins-x : (p : Piece) → byte t (i + 1) ≡ code "x" → Begins t (numbered (drop (i + 2) t)) i p → Begins t (escaped (drop (i + 1) t)) i p
-  begins-x p e =
-      begins-same t _ _ i p (rw (ne_eqb (byte t (i + 1)) backslash (omega arith), eq-eqb (byte t (i + 1)) (code "x") e) at (escaped-at t i))
+  pub begins-x : (o : Option Piece) → byte t (i + 1) ≡ code "x" → Begins t (numbered (drop (i + 2) t)) i o → Begins t (escaped (drop (i + 1) t)) i o
+  begins-x o e =
+      begins-same t _ _ i o (rw (ne_eqb (byte t (i + 1)) backslash (omega arith), eq-eqb (byte t (i + 1)) (code "x") e) at (escaped-at t i))
 
-  pub begins-other : (byte t (i + 1) ≡ backslash → ⊥) → (byte t (i + 1) ≡ code "x" → ⊥) → Begins t (escaped (drop (i + 1) t)) i (record { size = 0; byte = 0 })
-  begins-other e f =
-      begins-none t _ i (omega arith) (rw (ne_eqb (byte t (i + 1)) backslash e, ne_eqb (byte t (i + 1)) (code "x") f) at (escaped-at t i))
+  pub begins-other : (byte t (i + 1) ≡ backslash → ⊥) → (byte t (i + 1) ≡ code "x" → ⊥) → escaped (drop (i + 1) t) ≡ None
+  begins-other e f = rw (ne_eqb (byte t (i + 1)) backslash e, ne_eqb (byte t (i + 1)) (code "x") f) at (escaped-at t i)
 
   -- behind `\x` at i
-  pub begins-no-number : answer (hex_byte_at t (i + 2)) ≡ BadNumber → Begins t (numbered (drop (i + 2) t)) i (record { size = 0; byte = 0 })
-  begins-no-number e = begins-none t _ i (omega arith) (rw (answer-bad (hex_byte_at t (i + 2)) e) at (numbered-at t i))
+  pub begins-no-number : hex_byte_at t (i + 2) ≡ None → numbered (drop (i + 2) t) ≡ None
+  begins-no-number e = rw e at (numbered-at t i)
 
-  pub begins-number : (v : ℕ) → answer (hex_byte_at t (i + 2)) ≡ Value v → Begins t (numbered (drop (i + 2) t)) i (record { size = 4; byte = v })
+  pub begins-number : (v : ℕ) → hex_byte_at t (i + 2) ≡ Some v → IsPiece t (numbered (drop (i + 2) t)) i (record { size = 4; byte = v })
   begins-number v e =
-      let number = answer-value (hex_byte_at t (i + 2)) v e in
-      begins t _ i 4 v (omega arith) (omega (arith, number-inside t (i + 2) v number)) (rw number at (numbered-at t i))
+      stands t _ i 4 v (omega arith) (omega (arith, number-inside t (i + 2) v e)) (rw e at (numbered-at t i))
 
 -- ---- what a text stands for, by the first tests
 
-pub string-none : (t : List ℕ) → length t ≡ 0 → string_of t ≡ none
+pub string-none : (t : List ℕ) → length t ≡ 0 → string_of t ≡ None
 unfolding string_of
 string-none [] e = refl
 string-none (b ∷ t) e = absurd (omega arith)
 
-pub string-quotes : (t : List ℕ) → 0 < length t → is_quotes t ≡ true → string_of t ≡ some []
+pub string-quotes : (t : List ℕ) → 0 < length t → is_quotes t ≡ true → string_of t ≡ Some []
 unfolding string_of
 string-quotes [] h e = absurd (omega arith)
 string-quotes (b ∷ t) h e = rw e
@@ -185,44 +178,44 @@ string_bytes (b ∷ t) h e = rw e
 
 -- ---- bytes counted: n so far and those of the rest
 
-abbrev pub longer : ℕ → Option (List ℕ) → Decoded
-longer n none = Bad
-longer n (some s) = Length (n + length s)
+abbrev pub longer : ℕ → Option (List ℕ) → Option ℕ
+longer n None = None
+longer n (Some s) = Some (n + length s)
 
-pub longer-zero : (m : Option (List ℕ)) → longer 0 m ≡ answer_of m
-longer-zero none = refl
-longer-zero (some s) = ap Length (zero-add (length s))
+pub longer-zero : (m : Option (List ℕ)) → longer 0 m ≡ option_map length m
+longer-zero None = refl
+longer-zero (Some s) = ap Some (zero-add (length s))
 
-longer-joined : (n b : ℕ) (m : Option (List ℕ)) → longer n (joined (some b) m) ≡ longer (n + 1) m
-longer-joined n b none = refl
-longer-joined n b (some s) = ap Length (omega arith)
+longer-joined : (n b : ℕ) (m : Option (List ℕ)) → longer n (joined (Some b) m) ≡ longer (n + 1) m
+longer-joined n b None = refl
+longer-joined n b (Some s) = ap Some (omega arith)
 
-module _ (t : List ℕ) (i n : ℕ) (a : Decoded) (counted : longer n (bytes_of (drop i t)) ≡ a) where
-  pub longer-more : (p : Piece) → Begins t (bytes_of (drop i t)) i p → 0 < p.size → longer (n + 1) (bytes_of (drop (i + p.size) t)) ≡ a
-  longer-more p b h = sym (longer-joined n p.byte (bytes_of (drop (i + p.size) t))) ∙ ap (longer n) (sym (b.stands h)) ∙ counted
+module _ (t : List ℕ) (i n : ℕ) (a : Option ℕ) (counted : longer n (bytes_of (drop i t)) ≡ a) where
+  pub longer-more : (p : Piece) → IsPiece t (bytes_of (drop i t)) i p → longer (n + 1) (bytes_of (drop (i + p.size) t)) ≡ a
+  longer-more p b = sym (longer-joined n p.byte (bytes_of (drop (i + p.size) t))) ∙ ap (longer n) (sym b.meant) ∙ counted
 
-  pub longer-broken : (p : Piece) → Begins t (bytes_of (drop i t)) i p → p.size ≡ 0 → Bad ≡ a
-  longer-broken p b z = ap (longer n) (sym (b.broken z)) ∙ counted
+  pub longer-broken : bytes_of (drop i t) ≡ None → None ≡ a
+  longer-broken e = ap (longer n) (sym e) ∙ counted
 
-  pub longer-end : length t ≤ i → Length n ≡ a
-  longer-end h = ap Length (sym (add-zero n)) ∙ ap (longer n) (sym (bytes-end t i h)) ∙ counted
+  pub longer-end : length t ≤ i → Some n ≡ a
+  longer-end h = ap Some (sym (add-zero n)) ∙ ap (longer n) (sym (bytes-end t i h)) ∙ counted
 
 -- ---- bytes put: those so far and those of the rest
 
 -- bytes in front of a string
 abbrev pub following : List ℕ → Option (List ℕ) → Option (List ℕ)
-following done none = none
-following done (some s) = some (done ++ s)
+following done None = None
+following done (Some s) = Some (done ++ s)
 
 following-nothing : (m : Option (List ℕ)) → following [] m ≡ m
-following-nothing none = refl
-following-nothing (some s) = refl
+following-nothing None = refl
+following-nothing (Some s) = refl
 
-following-joined : (done : List ℕ) (b : ℕ) (m : Option (List ℕ)) → following done (joined (some b) m) ≡ following (done ++ (b ∷ [])) m
-following-joined done b none = refl
-following-joined done b (some s) = ap some (sym (append_assoc done (b ∷ []) s))
+following-joined : (done : List ℕ) (b : ℕ) (m : Option (List ℕ)) → following done (joined (Some b) m) ≡ following (done ++ (b ∷ [])) m
+following-joined done b None = refl
+following-joined done b (Some s) = ap Some (sym (append_assoc done (b ∷ []) s))
 
-same_some : (m : Option (List ℕ)) (a b : List ℕ) → m ≡ some a → m ≡ some b → a ≡ b
+same_some : (m : Option (List ℕ)) (a b : List ℕ) → m ≡ Some a → m ≡ Some b → a ≡ b
 same_some m a b p q = cc
 
 -- nothing more put, at the place behind a text that was put
@@ -239,64 +232,62 @@ pub along-start : (t : List ℕ) {before after : List ℕ} {at place : ℕ} → 
 along-start t p = record { done = []; reads = sym (following-nothing (bytes_of t)); puts = p }
 
 module _ (t : List ℕ) (i : ℕ) {before after : List ℕ} {at place : ℕ} (so_far : Along t i before after at place) where
-  pub along-more : {more : List ℕ} {next : ℕ} (p : Piece) → Begins t (bytes_of (drop i t)) i p → 0 < p.size
+  pub along-more : {more : List ℕ} {next : ℕ} (p : Piece) → IsPiece t (bytes_of (drop i t)) i p
       → Puts after more place next (p.byte ∷ []) → Along t (i + p.size) before more at next
-  along-more p b h put =
+  along-more p b put =
       record {
         done = so_far.done ++ (p.byte ∷ []);
-        reads = so_far.reads ∙ ap (following so_far.done) (b.stands h) ∙ following-joined so_far.done p.byte (bytes_of (drop (i + p.size) t));
+        reads = so_far.reads ∙ ap (following so_far.done) b.meant ∙ following-joined so_far.done p.byte (bytes_of (drop (i + p.size) t));
         puts = puts-append so_far.puts put;
       }
 
-  pub along-broken : (p : Piece) → Begins t (bytes_of (drop i t)) i p → p.size ≡ 0 → (s : List ℕ) → bytes_of t ≡ some s → Puts before after at place s
-  along-broken p b h s e =
-      let no : bytes_of t ≡ none = so_far.reads ∙ ap (following so_far.done) (b.broken h) in
-      let z : ◌≡◌ {A = ℕ} 0 1 = cc in
-      absurd (omega arith)
+  pub along-broken : bytes_of (drop i t) ≡ None → (s : List ℕ) → bytes_of t ≡ Some s → Puts before after at place s
+  along-broken b s e =
+      let no : bytes_of t ≡ None = so_far.reads ∙ ap (following so_far.done) b in
+      absurd (let z : ◌≡◌ {A = ℕ} 0 1 = cc in omega arith)
 
-  pub along-end : length t ≤ i → (s : List ℕ) → bytes_of t ≡ some s → Puts before after at place s
+  pub along-end : length t ≤ i → (s : List ℕ) → bytes_of t ≡ Some s → Puts before after at place s
   along-end h s e =
-      let all : bytes_of t ≡ some (so_far.done ++ []) = so_far.reads ∙ ap (following so_far.done) (bytes-end t i h) in
+      let all : bytes_of t ≡ Some (so_far.done ++ []) = so_far.reads ∙ ap (following so_far.done) (bytes-end t i h) in
       puts-same so_far.puts (sym (append-nil so_far.done) ∙ same_some (bytes_of t) (so_far.done ++ []) s all e)
 
 -- ---- what the answer to the length says of the string
 
-pub decoded-bad : (m : Option (List ℕ)) → Bad ≡ answer_of m → m ≡ none
-decoded-bad none e = refl
-decoded-bad (some s) e = let z : ◌≡◌ {A = ℕ} 0 1 = cc in absurd (omega arith)
+pub decoded-none : (m : Option (List ℕ)) → None ≡ option_map length m → m ≡ None
+decoded-none None e = refl
+decoded-none (Some s) e = absurd (let z : ◌≡◌ {A = ℕ} 0 1 = cc in omega arith)
 
-pub decoded-length : (m : Option (List ℕ)) (n : ℕ) → Length n ≡ answer_of m → (m ≡ some (content_of m)) × (n ≡ length (content_of m))
-decoded-length none n e = let z : ◌≡◌ {A = ℕ} 0 1 = cc in absurd (omega arith)
-decoded-length (some s) n e = (refl, cc)
+pub decoded-some : (m : Option (List ℕ)) (n : ℕ) → Some n ≡ option_map length m → (m ≡ Some (content_of m)) × (n ≡ length (content_of m))
+decoded-some None n e = let z : ◌≡◌ {A = ℕ} 0 1 = cc in absurd (omega arith)
+decoded-some (Some s) n e = (refl, cc)
 
-pub content-bad : (m : Option (List ℕ)) → Bad ≡ answer_of m → [] ≡ content_of m
-content-bad m e = sym (ap content_of (decoded-bad m e))
+-- the length that a text has, or 0 where it stands for no string
+abbrev pub size_of : Option (List ℕ) → ℕ
+size_of m = unwrap_or (option_map length m) 0
 
-pub content-empty : (m : Option (List ℕ)) (n : ℕ) → Length n ≡ answer_of m → n ≡ 0 → [] ≡ content_of m
-content-empty m n e z = empty (content_of m) (omega (arith, (decoded-length m n e).1))
-  where
-    empty : (s : List ℕ) → length s ≡ 0 → [] ≡ s
-    empty [] f = refl
-    empty (b ∷ s) f = absurd (omega arith)
+pub content-empty : (m : Option (List ℕ)) → size_of m ≡ 0 → [] ≡ content_of m
+content-empty None e = refl
+content-empty (Some []) e = refl
+content-empty (Some (b ∷ s)) e = absurd (omega arith)
 
 -- a text that stands for a string of at least one byte is pieces from its beginning to its end
-content-if : (q : Bool) (m : Option (List ℕ)) (n : ℕ) → Length n ≡ answer_of (cond q (some []) m) → 0 < n → m ≡ some (content_of (cond q (some []) m))
-content-if true m n e h = let same : n ≡ 0 = cc in absurd (omega arith)
-content-if false none n e h = let z : ◌≡◌ {A = ℕ} 0 1 = cc in absurd (omega arith)
-content-if false (some s) n e h = refl
+content-if : (q : Bool) (m : Option (List ℕ)) → 0 < size_of (cond q (Some []) m) → m ≡ Some (content_of (cond q (Some []) m))
+content-if true m h = absurd (omega arith)
+content-if false None h = absurd (omega arith)
+content-if false (Some s) h = refl
 
-pub content-bytes : (t : List ℕ) (n : ℕ) → Length n ≡ answer_of (string_of t) → 0 < n → bytes_of t ≡ some (content_of (string_of t))
+pub content-bytes : (t : List ℕ) → 0 < size_of (string_of t) → bytes_of t ≡ Some (content_of (string_of t))
 unfolding string_of
-content-bytes [] n e h = let z : ◌≡◌ {A = ℕ} 0 1 = cc in absurd (omega arith)
-content-bytes (b ∷ t) n e h = content-if (is_quotes (b ∷ t)) (bytes_of (b ∷ t)) n e h
+content-bytes [] h = absurd (omega arith)
+content-bytes (b ∷ t) h = content-if (is_quotes (b ∷ t)) (bytes_of (b ∷ t)) h
 
 -- ---- a string is not longer than its text
 
 -- the string, where there is one, has at most n bytes
 abbrev Short : ℕ → Option (List ℕ) → Type 0
-Short n m = (s : List ℕ) → m ≡ some s → length s ≤ n
+Short n m = (s : List ℕ) → m ≡ Some s → length s ≤ n
 
-short_none : (n : ℕ) → Short n none
+short_none : (n : ℕ) → Short n None
 short_none n s e = let z : ◌≡◌ {A = ℕ} 0 1 = cc in absurd (omega arith)
 
 short-cond : (q : Bool) (n : ℕ) (a b : Option (List ℕ)) → Short n a → Short n b → Short n (cond q a b)
@@ -304,29 +295,29 @@ short-cond true n a b f g = f
 short-cond false n a b f g = g
 
 short-joined : (o : Option ℕ) (k n : ℕ) (m : Option (List ℕ)) → Short n m → n < k → Short k (joined o m)
-short-joined none k n m f h s e = short_none k s e
-short-joined (some b) k n none f h s e = short_none k s e
-short-joined (some b) k n (some r) f h s e =
-    let size : suc (length r) ≡ length s = ap length (same_some (some s) (b ∷ r) s (sym e) refl) in
+short-joined None k n m f h s e = short_none k s e
+short-joined (Some b) k n None f h s e = short_none k s e
+short-joined (Some b) k n (Some r) f h s e =
+    let size : suc (length r) ≡ length s = ap length (same_some (Some s) (b ∷ r) s (sym e) refl) in
     omega (arith, f r refl)
 
 mutual
   unfolding bytes_of
 
   bytes-short : (t : List ℕ) → Short (length t) (bytes_of t)
-  bytes-short [] = λ s e. omega (arith, ap length (same_some (some []) [] s refl e))
+  bytes-short [] = λ s e. omega (arith, ap length (same_some (Some []) [] s refl e))
   bytes-short (b ∷ t) =
-      short-cond (eqb b backslash) (suc (length t)) (escaped t) (cond (bare b) (joined (some b) (bytes_of t)) none)
+      short-cond (eqb b backslash) (suc (length t)) (escaped t) (cond (bare b) (joined (Some b) (bytes_of t)) None)
       (λ s e. omega (arith, escaped-short t s e))
-      (short-cond (bare b) (suc (length t)) (joined (some b) (bytes_of t)) none
-      (short-joined (some b) (suc (length t)) (length t) (bytes_of t) (bytes-short t) (omega arith)) (short_none (suc (length t))))
+      (short-cond (bare b) (suc (length t)) (joined (Some b) (bytes_of t)) None
+      (short-joined (Some b) (suc (length t)) (length t) (bytes_of t) (bytes-short t) (omega arith)) (short_none (suc (length t))))
 
   escaped-short : (t : List ℕ) → Short (length t) (escaped t)
   escaped-short [] = short_none 0
   escaped-short (b ∷ t) =
-      short-cond (eqb b backslash) (suc (length t)) (joined (some backslash) (bytes_of t)) (cond (eqb b (code "x")) (numbered t) none)
-      (short-joined (some backslash) (suc (length t)) (length t) (bytes_of t) (bytes-short t) (omega arith))
-      (short-cond (eqb b (code "x")) (suc (length t)) (numbered t) none (λ s e. omega (arith, numbered-short t s e)) (short_none (suc (length t))))
+      short-cond (eqb b backslash) (suc (length t)) (joined (Some backslash) (bytes_of t)) (cond (eqb b (code "x")) (numbered t) None)
+      (short-joined (Some backslash) (suc (length t)) (length t) (bytes_of t) (bytes-short t) (omega arith))
+      (short-cond (eqb b (code "x")) (suc (length t)) (numbered t) None (λ s e. omega (arith, numbered-short t s e)) (short_none (suc (length t))))
 
   numbered-short : (t : List ℕ) → Short (length t) (numbered t)
   numbered-short [] = short_none 0
@@ -334,12 +325,12 @@ mutual
   numbered-short (h ∷ (l ∷ t)) =
       short-joined (numeral 16 (h ∷ (l ∷ []))) (suc (suc (length t))) (length t) (bytes_of t) (bytes-short t) (omega arith)
 
-pub string-short : (t s : List ℕ) → string_of t ≡ some s → length s ≤ length t
+pub string-short : (t s : List ℕ) → string_of t ≡ Some s → length s ≤ length t
 unfolding string_of
 string-short [] = short_none 0
 string-short (b ∷ t) =
-    short-cond (is_quotes (b ∷ t)) (suc (length t)) (some []) (bytes_of (b ∷ t))
-    (λ s e. omega (arith, ap length (same_some (some []) [] s refl e))) (bytes-short (b ∷ t))
+    short-cond (is_quotes (b ∷ t)) (suc (length t)) (Some []) (bytes_of (b ∷ t))
+    (λ s e. omega (arith, ap length (same_some (Some []) [] s refl e))) (bytes-short (b ∷ t))
 
 -- ---- the text of bytes, one after another
 
@@ -409,23 +400,23 @@ module _ (inner : Bool) (b : ℕ) where
 
 -- a text is one piece that stands for the byte
 abbrev Stands : List ℕ → ℕ → Type 0
-Stands x b = (t : List ℕ) → bytes_of (x ++ t) ≡ joined (some b) (bytes_of t)
+Stands x b = (t : List ℕ) → bytes_of (x ++ t) ≡ joined (Some b) (bytes_of t)
 
 piece_back : (inner : Bool) (b : ℕ) → b < 256 → Stands (byte_text inner b) b
 unfolding bytes_of padded
 piece_back inner b h t =
-    by-text inner b (λ (x : List ℕ). bytes_of (x ++ t) ≡ joined (some b) (bytes_of t))
+    by-text inner b (λ (x : List ℕ). bytes_of (x ++ t) ≡ joined (Some b) (bytes_of t))
     (λ f. simp (ne_eqb b backslash f.no-backslash, le-leb 0x20 b (shown-low inner b f), ne_eqb b 0x7f (omega (arith, f.high))))
     (ap (λ (o : Option ℕ). joined o (bytes_of t)) (numeral-padded 16 (omega arith) (omega arith) 1 b h))
 
 -- such texts of the bytes of s, one after another, stand for s
-pieces-back : (f : ℕ → List ℕ) (s : List ℕ) (k : ℕ) → ((i : ℕ) → Stands (f (k + i)) (byte s i)) → bytes_of (gather f k (length s)) ≡ some s
+pieces-back : (f : ℕ → List ℕ) (s : List ℕ) (k : ℕ) → ((i : ℕ) → Stands (f (k + i)) (byte s i)) → bytes_of (gather f k (length s)) ≡ Some s
 unfolding gather bytes_of
 pieces-back f [] k each = refl
 pieces-back f (b ∷ s) k each =
     let here : f (k + 0) ≡ f k = ap f (add-zero k) in
     let next : (i : ℕ) → f (k + suc i) ≡ f (suc k + i) = λ i. ap f (omega arith) in
-    (rw here at (each 0)) (gather f (suc k) (length s)) ∙ ap (joined (some b)) (pieces-back f s (suc k) (λ i. rw (next i) at (each (suc i))))
+    (rw here at (each 0)) (gather f (suc k) (length s)) ∙ ap (joined (Some b)) (pieces-back f s (suc k) (λ i. rw (next i) at (each (suc i))))
 
 -- the text of a string does not begin with a quote
 text-no-quotes : (inner : Bool) (b : ℕ) (t : List ℕ) → is_quotes (byte_text inner b ++ t) ≡ false
@@ -442,7 +433,7 @@ text-nonempty (b ∷ s) =
     omega (arith, length-append (text_at (b ∷ s) 0) (gather (text_at (b ∷ s)) 1 (length s)), byte-nonempty (is_inner (b ∷ s) 0) b)
 
 -- the text of a string of bytes stands for that string
-pub string-back : (s : List ℕ) → ((i : ℕ) → byte s i < 256) → string_of (string_text s) ≡ some s
+pub string-back : (s : List ℕ) → ((i : ℕ) → byte s i < 256) → string_of (string_text s) ≡ Some s
 unfolding string_of string_text gather text_at
 string-back [] h = refl
 string-back (b ∷ s) h =

@@ -1,20 +1,19 @@
 -- Laws of `Gathers`, for the functions that read an address: pieces gathered one behind another are gathered in all, whether or
 -- not they fit; and room of n + 1 zeros that ends at n holds exactly those n bytes.
---     short-is, bad-long, short-le                     a number of few digits
+--     short-is, short-long, short-le                   a number of few digits
 --     gathers-some, gathers-none, gathers-both, ..     what is gathered, in all
 --     gathers-last, gathers-stop, gathers-next         the pieces of a text, by its first separator
 --     exactly-yes, exactly-no                          exactly n bytes
---     gathers-group, gathers-four, four-some, ..       the last group, and IPv4
+--     gathers-group, gathers-four, four-listed        the last group, and IPv4
 --     side-none, side-some, filled-no, filled-written  the two sides of `::`
 --     gap-found, gap-missing, gap-test                 the first `::`
 --     six-gap, six-plain, address-six, address-four    which of the forms a text has
 -- Assumes nothing.
+use Rattle.std.specs.Prelude.{Option, None, Some}
 use mathlib.Core.Path.{◌≡◌, refl, sym, ap, ◌∙◌}
 use mathlib.Core.Bool.{Bool, true, false, cond, ◌&&◌}
 use mathlib.Core.List.{List, [], ◌∷◌, ◌++◌, append_assoc}
-use mathlib.Core.Option.{Option, none, some}
-use Prim.Native.Nat.{ℕ, zero, suc, ◌+◌, ◌-◌, ◌≤◌, ◌<◌}
-use native.Mathlib.Nat.{zero-add}
+use Prim.Native.Nat.{ℕ, suc, ◌+◌, ◌-◌, ◌≤◌, ◌<◌}
 use native.Mathlib.Numerals.{add-one}
 use native.Mathlib.Omega.{arith}
 use native.Mathlib.Decide.{dec_le, ℕ_discrete}
@@ -23,24 +22,23 @@ use lib.ListN.{length, take, drop, length-append}
 use lib.Seq.{take_all, take-append_seam, take_at, drop_at}
 use lib.Dec.{eqb}
 use Rattle.octets.specs.Octets.{byte, write, zeros, part, bytes_at}
-use Rattle.octets.proofs.CountingLaws.{clash, first-is}
+use Rattle.octets.proofs.CountingLaws.{first-is}
 use Rattle.octets.proofs.ReadLaws.{take_rest, bytes-part, part-whole, part-rest}
 use Rattle.octets.proofs.WriteLaws.{write-past, write-front, write-next, length-write, length-zeros}
 use Rattle.text.specs.Put.{Puts}
 use Rattle.text.specs.Split.{is, before, index_of, pieces}
 use Rattle.text.proofs.PutLaws.{puts-append, puts-same, puts-length, puts-within}
 use Rattle.text.proofs.SplitLaws.{pieces-first, pieces-some, pieces_none}
-use Rattle.notation.specs.Number.{numeral, numeral_up_to, answer}
-use Rattle.notation.specs.declared.number.Number.TheVariants.{Value, Bad}
+use Rattle.notation.specs.Number.{numeral, numeral_up_to}
 use Rattle.notation.specs.Address.{dot, colon, holds, both, exactly, short, bytes_of, decimal, four_bytes, group, last_group, groups}
 use Rattle.notation.specs.Address.{side, gap_at, filled, with_gap, without_gap, read_six, mapped_four, read_address}
-use Rattle.notation.specs.AddressSteps.{Gathers, four_read}
-use Rattle.notation.specs.declared.address.FourRead.{FourRead}
-use Rattle.notation.proofs.NumberLaws.{answer-value, below-some}
+use Rattle.notation.specs.AddressSteps.{Gathers}
+use Rattle.notation.proofs.NumberLaws.{below-some}
+use Rattle.notation.proofs.ZerosLaws.{zeros-append}
 
 -- ---- short numbers
 
-short-long : (base most max : ℕ) (t : List ℕ) → most < length t → short base most max t ≡ none
+pub short-long : (base most max : ℕ) (t : List ℕ) → most < length t → short base most max t ≡ None
 unfolding short
 short-long base most max t h = rw (lt-leb (length t) most h)
 
@@ -48,13 +46,8 @@ pub short-is : (base most max : ℕ) (t : List ℕ) → length t ≤ most → sh
 unfolding short
 short-is base most max t h = rw (le-leb (length t) most h)
 
-pub bad-long : (base most max : ℕ) (t : List ℕ) → most < length t → Bad ≡ answer (short base most max t)
-unfolding answer
-bad-long base most max t h = sym (ap answer (short-long base most max t h))
-
-pub short-le : (base most max v : ℕ) (t : List ℕ) → Value v ≡ answer (short base most max t) → v ≤ max
-short-le base most max v t e =
-    let found : short base most max t ≡ some v = answer-value (short base most max t) v (sym e) in
+pub short-le : (base most max v : ℕ) (t : List ℕ) → short base most max t ≡ Some v → v ≤ max
+short-le base most max v t found =
     elim (dec_le (length t) most) [
       | yes h ↦ omega (arith, (below-some (max + 1) v (numeral base t) (sym (short-is base most max t h) ∙ found)).1)
       | no h ↦
@@ -64,7 +57,7 @@ short-le base most max v t e =
 
 -- ---- bytes that a text has, and bytes that it has not
 
-pub gathers-some : {a b : List ℕ} {at r : ℕ} {xs : List ℕ} {o : Option (List ℕ)} → Puts a b at r xs → o ≡ some xs → Gathers a b at r o
+pub gathers-some : {a b : List ℕ} {at r : ℕ} {xs : List ℕ} {o : Option (List ℕ)} → Puts a b at r xs → o ≡ Some xs → Gathers a b at r o
 gathers-some p e =
     record {
       puts = λ ys f. puts-same p (cc);
@@ -72,7 +65,7 @@ gathers-some p e =
       size = puts-length p;
     }
 
-pub gathers-none : {a b : List ℕ} {at r : ℕ} {o : Option (List ℕ)} → o ≡ none → r ≡ length a → length b ≡ length a → Gathers a b at r o
+pub gathers-none : {a b : List ℕ} {at r : ℕ} {o : Option (List ℕ)} → o ≡ None → r ≡ length a → length b ≡ length a → Gathers a b at r o
 gathers-none e end size =
     record {
       puts = λ ys f. let z : ◌≡◌ {A = ℕ} 0 1 = cc in absurd (omega arith);
@@ -86,23 +79,23 @@ pub gathers-within : {a b : List ℕ} {at r : ℕ} {o : Option (List ℕ)} → G
 gathers-within {a} {b} {at} {r} {o} g = go o refl
   where
     go : (p : Option (List ℕ)) → o ≡ p → r ≤ length a
-    go none e = omega (arith, g.refuses e)
-    go (some xs) e = puts-within (g.puts xs e)
+    go None e = omega (arith, g.refuses e)
+    go (Some xs) e = puts-within (g.puts xs e)
 
 -- from the room's end on
 gathers-end : {b c : List ℕ} {m n : ℕ} {p : Option (List ℕ)} → length b ≤ m → Gathers b c m n p → n ≡ length b
 gathers-end {b} {c} {m} {n} {p} h g = go p refl
   where
     go : (o : Option (List ℕ)) → p ≡ o → n ≡ length b
-    go none e = g.refuses e
-    go (some xs) e = omega (arith, (g.puts xs e).end)
+    go None e = g.refuses e
+    go (Some xs) e = omega (arith, (g.puts xs e).end)
 
 pub gathers-both : {a b c : List ℕ} {at m n : ℕ} (o p : Option (List ℕ)) → Gathers a b at m o → Gathers b c m n p → Gathers a c at n (both o p)
-gathers-both none p g h =
+gathers-both None p g h =
     let full = g.refuses refl in
     gathers-none refl (gathers-end (omega (arith, g.size)) h ∙ g.size) (h.size ∙ g.size)
-gathers-both (some xs) none g h = gathers-none refl (h.refuses refl ∙ g.size) (h.size ∙ g.size)
-gathers-both (some xs) (some ys) g h = gathers-some (puts-append (g.puts xs refl) (h.puts ys refl)) refl
+gathers-both (Some xs) None g h = gathers-none refl (h.refuses refl ∙ g.size) (h.size ∙ g.size)
+gathers-both (Some xs) (Some ys) g h = gathers-some (puts-append (g.puts xs refl) (h.puts ys refl)) refl
 
 -- a full room settles the answer
 pub gathers-full : {a b : List ℕ} {at m : ℕ} (o p : Option (List ℕ)) → Gathers a b at m o → length b ≤ m → Gathers a b at m (both o p)
@@ -112,8 +105,8 @@ gathers-full {a} {b} {at} {m} o p g h = gathers-both o p g (go p)
     full = omega (arith, gathers-within g, g.size)
 
     go : (p : Option (List ℕ)) → Gathers b b m m p
-    go none = gathers-none refl full refl
-    go (some ys) = gathers-some (record { bytes = sym (write-past b m ys h); end = omega (arith, full) }) refl
+    go None = gathers-none refl full refl
+    go (Some ys) = gathers-some (record { bytes = sym (write-past b m ys h); end = omega (arith, full) }) refl
 
 -- ---- the bytes of the pieces of a text
 
@@ -156,24 +149,24 @@ puts-front {a} {b} {r} {xs} p h =
     ap (take (length xs)) (p.bytes ∙ write-front a xs h) ∙ take-append_seam xs (drop (length xs) a)
 
 module _ (n : ℕ) (a : List ℕ) (size : length a ≡ n + 1) {b : List ℕ} {r : ℕ} (o : Option (List ℕ)) (g : Gathers a b 0 r o) where
-  pub exactly-yes : r ≡ n → exactly n o ≡ some (bytes_at b 0 n)
+  pub exactly-yes : r ≡ n → exactly n o ≡ Some (bytes_at b 0 n)
   unfolding part
   exactly-yes e = go o refl
     where
-      go : (p : Option (List ℕ)) → o ≡ p → exactly n p ≡ some (bytes_at b 0 n)
-      go none f = absurd (omega (arith, g.refuses f))
-      go (some xs) f =
+      go : (p : Option (List ℕ)) → o ≡ p → exactly n p ≡ Some (bytes_at b 0 n)
+      go None f = absurd (omega (arith, g.refuses f))
+      go (Some xs) f =
           let p = g.puts xs f in
           let count : length xs ≡ n = omega (arith, p.end) in
           let here : take n b ≡ xs = rw count at (puts-front p (omega arith)) in
-          rw (eq-eqb (length xs) n count, bytes-part b 0 n (omega (arith, g.size))) (ap some (sym here))
+          rw (eq-eqb (length xs) n count, bytes-part b 0 n (omega (arith, g.size))) (ap Some (sym here))
 
-  pub exactly-no : (r ≡ n → ⊥) → exactly n o ≡ none
+  pub exactly-no : (r ≡ n → ⊥) → exactly n o ≡ None
   exactly-no e = go o refl
     where
-      go : (p : Option (List ℕ)) → o ≡ p → exactly n p ≡ none
-      go none f = refl
-      go (some xs) f = rw (ne_eqb (length xs) n (λ q. e (omega (arith, (g.puts xs f).end))))
+      go : (p : Option (List ℕ)) → o ≡ p → exactly n p ≡ None
+      go None f = refl
+      go (Some xs) f = rw (ne_eqb (length xs) n (λ q. e (omega (arith, (g.puts xs f).end))))
 
 -- ---- the last group
 
@@ -186,54 +179,33 @@ module _ (four : Bool) (t : List ℕ) {a b : List ℕ} {at r : ℕ} where
   unfolding last_group
   gathers-four e f g = rw (e, f) g
 
--- what `read_four` answered
-module _ (o : Option (List ℕ)) (read : FourRead) (e : read ≡ four_read o) where
-  pub four-some : read.ok ≡ true → o ≡ some read.bytes
-  four-some yes-ok = go o e
-    where
-      go : (p : Option (List ℕ)) → read ≡ four_read p → p ≡ some read.bytes
-      go none f = clash yes-ok (ap (λ (x : FourRead). x.ok) f)
-      go (some xs) f = sym (ap (λ (x : FourRead). some x.bytes) f)
-
-  pub four-none : read.ok ≡ false → o ≡ none
-  four-none not-ok = go o e
-    where
-      go : (p : Option (List ℕ)) → read ≡ four_read p → p ≡ none
-      go none f = refl
-      go (some xs) f = clash (ap (λ (x : FourRead). x.ok) f) not-ok
-
 -- four bytes, one by one
-pub four-listed : (t xs : List ℕ) → four_bytes t ≡ some xs → bytes_at xs 0 4 ≡ xs
+pub four-listed : (t xs : List ℕ) → four_bytes t ≡ Some xs → bytes_at xs 0 4 ≡ xs
 unfolding four_bytes part
 four-listed t xs e =
     let size : length xs ≡ 4 = go (bytes_of decimal decimal (pieces dot t)) e in
     bytes-part xs 0 4 (omega arith) ∙ take_all 4 xs (omega arith)
   where
-    go : (o : Option (List ℕ)) → exactly 4 o ≡ some xs → length xs ≡ 4
-    go none e = let z : ◌≡◌ {A = ℕ} 0 1 = cc in absurd (omega arith)
-    go (some ys) e =
+    go : (o : Option (List ℕ)) → exactly 4 o ≡ Some xs → length xs ≡ 4
+    go None e = let z : ◌≡◌ {A = ℕ} 0 1 = cc in absurd (omega arith)
+    go (Some ys) e =
         elim (ℕ_discrete (length ys) 4) [
-          | yes h ↦ let same : some ys ≡ some xs = sym (ap (λ (b : Bool). cond b (some ys) none) (eq-eqb (length ys) 4 h)) ∙ e in
+          | yes h ↦ let same : Some ys ≡ Some xs = sym (ap (λ (b : Bool). cond b (Some ys) None) (eq-eqb (length ys) 4 h)) ∙ e in
               let equal : ys ≡ xs = cc in sym (ap length equal) ∙ h
-          | no h ↦ let never = sym (ap (λ (b : Bool). cond b (some ys) none) (ne_eqb (length ys) 4 h)) ∙ e in
+          | no h ↦ let never = sym (ap (λ (b : Bool). cond b (Some ys) None) (ne_eqb (length ys) 4 h)) ∙ e in
               let z : ◌≡◌ {A = ℕ} 0 1 = cc in absurd (omega arith)
         ]
 
 -- ---- one side of `::`, and both with zeros between
 
 module _ (four : Bool) (t : List ℕ) where
-  pub side-none : length t ≡ 0 → side four t ≡ some []
+  pub side-none : length t ≡ 0 → side four t ≡ Some []
   unfolding side
   side-none h = rw (eq-eqb (length t) 0 h)
 
   pub side-some : (length t ≡ 0 → ⊥) → side four t ≡ groups four t
   unfolding side
   side-some h = rw (ne_eqb (length t) 0 h)
-
-zeros-append : (n m : ℕ) → zeros n ++ zeros m ≡ zeros (n + m)
-unfolding zeros
-zeros-append zero m = ap zeros (sym (zero-add m))
-zeros-append (suc n) m = let next : suc n + m ≡ suc (n + m) = omega arith in rw (next, zeros-append n m)
 
 drop-zeros : (n m : ℕ) → drop n (zeros (n + m)) ≡ zeros m
 drop-zeros n m = ap (drop n) (sym (zeros-append n m)) ∙ drop_at (zeros n) (zeros m) n (length-zeros n)
@@ -253,25 +225,25 @@ write-zeros w k xs h =
     (sym (write-front (zeros w) xs (omega (arith, length-zeros w))))
 
 module _ {b c : List ℕ} {n m : ℕ} (o p : Option (List ℕ)) (g : Gathers (zeros 17) b 0 n o) (h : Gathers (zeros 17) c 0 m p) where
-  pub filled-no : 14 < n + m → filled o p ≡ none
+  pub filled-no : 14 < n + m → filled o p ≡ None
   filled-no long = go o p refl refl
     where
-      go : (x y : Option (List ℕ)) → o ≡ x → p ≡ y → filled x y ≡ none
-      go none y e f = refl
-      go (some xs) none e f = refl
-      go (some xs) (some ys) e f =
+      go : (x y : Option (List ℕ)) → o ≡ x → p ≡ y → filled x y ≡ None
+      go None y e f = refl
+      go (Some xs) None e f = refl
+      go (Some xs) (Some ys) e f =
           rw (lt-leb (length xs + length ys) 14 (omega (arith, (g.puts xs e).end, (h.puts ys f).end)))
 
-  pub filled-yes : n + m ≤ 14 → filled o p ≡ some (bytes_at (write b (16 - m) (part c 0 m)) 0 16)
+  pub filled-yes : n + m ≤ 14 → filled o p ≡ Some (bytes_at (write b (16 - m) (part c 0 m)) 0 16)
   filled-yes short = go o p refl refl
     where
       width : length (zeros 17) ≡ 17
       width = length-zeros 17
 
-      go : (x y : Option (List ℕ)) → o ≡ x → p ≡ y → filled x y ≡ some (bytes_at (write b (16 - m) (part c 0 m)) 0 16)
-      go none y e f = absurd (omega (arith, g.refuses e, width))
-      go (some xs) none e f = absurd (omega (arith, h.refuses f, width))
-      go (some xs) (some ys) e f =
+      go : (x y : Option (List ℕ)) → o ≡ x → p ≡ y → filled x y ≡ Some (bytes_at (write b (16 - m) (part c 0 m)) 0 16)
+      go None y e f = absurd (omega (arith, g.refuses e, width))
+      go (Some xs) None e f = absurd (omega (arith, h.refuses f, width))
+      go (Some xs) (Some ys) e f =
           let n-is : length xs ≡ n = omega (arith, (g.puts xs e).end, width) in
           let m-is : length ys ≡ m = omega (arith, (h.puts ys f).end, width) in
           let k = 16 - (length xs + length ys) in
@@ -292,8 +264,8 @@ module _ {b c : List ℕ} {n m : ℕ} (o p : Option (List ℕ)) (g : Gathers (ze
             whole,
           )
 
-  pub filled-written : n + m ≤ 14 → (w v : List ℕ) → w ≡ write b (16 - m) v → v ≡ part c 0 m → filled o p ≡ some (bytes_at w 0 16)
-  filled-written short w v e f = filled-yes short ∙ ap (λ (x : List ℕ). some (bytes_at x 0 16)) (sym (e ∙ ap (write b (16 - m)) f))
+  pub filled-written : n + m ≤ 14 → (w v : List ℕ) → w ≡ write b (16 - m) v → v ≡ part c 0 m → filled o p ≡ Some (bytes_at w 0 16)
+  filled-written short w v e f = filled-yes short ∙ ap (λ (x : List ℕ). Some (bytes_at x 0 16)) (sym (e ∙ ap (write b (16 - m)) f))
 
 pub with_gap-sides : (t : List ℕ) (g : ℕ) (x y : List ℕ) → x ≡ part t 0 g → y ≡ part t (g + 2) (length t)
     → with_gap t g ≡ filled (side false x) (side true y)

@@ -6,5 +6,7 @@ pub mod AddressLaws
 pub mod GatherLaws
 pub mod AddressPutLaws
 pub mod WidthLaws
+pub mod ZerosLaws
+pub mod ValueLaws
 pub mod EscapeLaws
 pub mod LineLaws

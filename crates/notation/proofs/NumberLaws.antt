@@ -1,7 +1,6 @@
 -- Laws of numbers as they are written. Read: a number only grows with its digits, so one that has passed its limit is refused
 -- whatever follows. Written: every text that `digits` makes is one digit, or the digits of n / base and one more
 -- (`digits-made`), and what holds of such texts is shown once for each of the two.
---     answer-value, answer-bad                      what a call's answer says
 --     value-go, value-stop, value-end               the next digit, a byte that ends it, no more bytes
 --     digits-small, digits_more                     one digit, or one more
 --     numeral-digits, number_up_to-digits             digits read back
@@ -11,10 +10,12 @@
 --     digits-never, padded-never                    a byte that is no digit is not among them
 --     puts_first, puts-last                         digits put into room
 -- Assumes nothing.
+use Rattle.octets.specs.Options.{bind}
+use Rattle.std.proofs.lemmas.Option.{none-some}
+use Rattle.std.specs.Prelude.{Option, None, Some, option_map, unwrap_or}
 use mathlib.Core.Path.{◌≡◌, refl, sym, ap, ap₂, ◌∙◌}
 use mathlib.Core.Bool.{Bool, true, false, ◌&&◌}
 use mathlib.Core.List.{List, [], ◌∷◌, ◌++◌}
-use mathlib.Core.Option.{Option, none, some, map, get_or, none-ne-some, some-ne-none, bind}
 use Prim.Native.Nat.{ℕ, zero, suc, ◌+◌, ◌*◌, ◌/◌, ◌%◌, ◌^◌, ◌≤◌, ◌<◌}
 use Prim.Native.Char.{code}
 use native.Mathlib.Nat.{add-zero, zero-mul, one-mul, pow-zero, pow-suc, mod-lt, div-lt_self, div-add-mod', div-lt_iff_lt-mul, le-mul_of_pos_right}
@@ -33,71 +34,58 @@ use Rattle.octets.proofs.LiesLaws.{Lies}
 use Rattle.text.specs.Put.{Puts}
 use Rattle.text.proofs.PutLaws.{puts-append, puts-same}
 use Rattle.notation.specs.Number.{hex_digit, below, digit, with_digit, value_from, numeral, is_hex, number, numeral_up_to, number_up_to}
-use Rattle.notation.specs.Number.{hex_byte_at, answer, digit_byte, digits_within, digits, padded}
-use Rattle.notation.specs.declared.number.Number.TheVariants.{Value, Bad}
-
--- ---- what a call's answer says
-
-pub answer-value : (o : Option ℕ) (n : ℕ) → answer o ≡ Value n → o ≡ some n
-unfolding answer
-answer-value none n e = absurd (let z : ◌≡◌ {A = ℕ} 0 1 = cc in omega arith)
-answer-value (some m) n e = cc
-
-pub answer-bad : (o : Option ℕ) → answer o ≡ Bad → o ≡ none
-unfolding answer
-answer-bad none e = refl
-answer-bad (some m) e = absurd (let z : ◌≡◌ {A = ℕ} 0 1 = cc in omega arith)
+use Rattle.notation.specs.Number.{hex_byte_at, digit_byte, digits_within, digits, padded}
 
 -- ---- a number below a limit
 
-pub below-yes : (limit n : ℕ) → n < limit → below limit (some n) ≡ some n
+pub below-yes : (limit n : ℕ) → n < limit → below limit (Some n) ≡ Some n
 unfolding below
 below-yes limit n h = rw (lt-ltb n limit h)
 
-pub below-no : (limit n : ℕ) → limit ≤ n → below limit (some n) ≡ none
+pub below-no : (limit n : ℕ) → limit ≤ n → below limit (Some n) ≡ None
 unfolding below
 below-no limit n h = rw (le-ltb n limit h)
 
-below_none : (limit n : ℕ) → below limit (some n) ≡ none → limit ≤ n
+below_none : (limit n : ℕ) → below limit (Some n) ≡ None → limit ≤ n
 below_none limit n e =
     elim (dec_lt n limit) [
-      | yes h ↦ absurd (some-ne-none n (sym (below-yes limit n h) ∙ e))
+      | yes h ↦ absurd (none-some n (sym e ∙ below-yes limit n h))
       | no h ↦ omega arith
     ]
 
-pub below-some : (limit n : ℕ) (o : Option ℕ) → below limit o ≡ some n → (o ≡ some n) × (n < limit)
+pub below-some : (limit n : ℕ) (o : Option ℕ) → below limit o ≡ Some n → (o ≡ Some n) × (n < limit)
 unfolding below
-below-some limit n none e = absurd (none-ne-some n e)
-below-some limit n (some m) e =
+below-some limit n None e = absurd (none-some n e)
+below-some limit n (Some m) e =
     elim (dec_lt m limit) [
       | yes h ↦
-          let same : some m ≡ some n = sym (below-yes limit m h) ∙ e in
+          let same : Some m ≡ Some n = sym (below-yes limit m h) ∙ e in
           let equal : m ≡ n = cc in (same, omega arith)
-      | no h ↦ absurd (none-ne-some n (sym (below-no limit m (omega arith)) ∙ e))
+      | no h ↦ absurd (none-some n (sym (below-no limit m (omega arith)) ∙ e))
     ]
 
 -- a limit that no value reaches
-below_all : (limit : ℕ) (o : Option ℕ) → ((n : ℕ) → o ≡ some n → n < limit) → below limit o ≡ o
+below_all : (limit : ℕ) (o : Option ℕ) → ((n : ℕ) → o ≡ Some n → n < limit) → below limit o ≡ o
 unfolding below
-below_all limit none small = refl
-below_all limit (some n) small = below-yes limit n (small n refl)
+below_all limit None small = refl
+below_all limit (Some n) small = below-yes limit n (small n refl)
 
-pub digit-below : (base b d : ℕ) → digit base b ≡ some d → d < base
+pub digit-below : (base b d : ℕ) → digit base b ≡ Some d → d < base
 unfolding digit
 digit-below base b d e = (below-some base d (hex_digit b) e).1
 
 -- ---- reading goes on
 
 -- a number that has passed the limit is refused, whatever follows
-value-past : (base limit : ℕ) (t : List ℕ) (m : ℕ) → limit ≤ m → below limit (value_from base m t) ≡ none
+value-past : (base limit : ℕ) (t : List ℕ) (m : ℕ) → limit ≤ m → below limit (value_from base m t) ≡ None
 unfolding value_from bind below
 value-past base limit [] m h = below-no limit m h
 value-past base limit (b ∷ t) m h = go (digit base b) (digit-below base b) (value-past base limit t)
   where
-    go : (o : Option ℕ) → ((d : ℕ) → o ≡ some d → d < base) → ((k : ℕ) → limit ≤ k → below limit (value_from base k t) ≡ none)
-        → below limit (bind (map (λ (d : ℕ). m * base + d) o) (λ (k : ℕ). value_from base k t)) ≡ none
-    go none small more = refl
-    go (some d) small more =
+    go : (o : Option ℕ) → ((d : ℕ) → o ≡ Some d → d < base) → ((k : ℕ) → limit ≤ k → below limit (value_from base k t) ≡ None)
+        → below limit (bind (option_map (λ (d : ℕ). m * base + d) o) (λ (k : ℕ). value_from base k t)) ≡ None
+    go None small more = refl
+    go (Some d) small more =
         let pos : 0 < base = omega (arith, small d refl) in
         let grown : m ≤ m * base = le-mul_of_pos_right m pos in
         more (m * base + d) (omega arith)
@@ -108,21 +96,21 @@ module _ (base n : ℕ) (s : List ℕ) (i : ℕ) (inside : i < length s) where
   value-step = rw (drop-cons s i 0, add-one)
 
   -- the next digit is taken
-  pub value-go : (limit m : ℕ) → below limit (with_digit base n (byte s i)) ≡ some m
+  pub value-go : (limit m : ℕ) → below limit (with_digit base n (byte s i)) ≡ Some m
       → value_from base m (drop (i + 1) s) ≡ value_from base n (drop i s)
   unfolding bind
   value-go limit m e = sym (value-step ∙ rw (below-some limit m (with_digit base n (byte s i)) e).0)
 
   -- the next byte is no digit, or the number passes the limit with it
-  pub value-stop : (limit : ℕ) → below limit (with_digit base n (byte s i)) ≡ none → below limit (value_from base n (drop i s)) ≡ none
+  pub value-stop : (limit : ℕ) → below limit (with_digit base n (byte s i)) ≡ None → below limit (value_from base n (drop i s)) ≡ None
   unfolding bind below
   value-stop limit e = ap (below limit) value-step ∙ go (with_digit base n (byte s i)) e
     where
-      go : (o : Option ℕ) → below limit o ≡ none → below limit (bind o (λ (m : ℕ). value_from base m (drop (i + 1) s))) ≡ none
-      go none f = refl
-      go (some m) f = value-past base limit (drop (i + 1) s) m (below_none limit m f)
+      go : (o : Option ℕ) → below limit o ≡ None → below limit (bind o (λ (m : ℕ). value_from base m (drop (i + 1) s))) ≡ None
+      go None f = refl
+      go (Some m) f = value-past base limit (drop (i + 1) s) m (below_none limit m f)
 
-pub value-end : (base n : ℕ) (s : List ℕ) (i : ℕ) → length s ≤ i → value_from base n (drop i s) ≡ some n
+pub value-end : (base n : ℕ) (s : List ℕ) (i : ℕ) → length s ≤ i → value_from base n (drop i s) ≡ Some n
 unfolding value_from
 value-end base n s i h = rw drop_of_length-le
 
@@ -131,50 +119,50 @@ unfolding numeral
 numeral-value base [] h = absurd (omega arith)
 numeral-value base (b ∷ t) h = refl
 
-pub numeral-empty : (base : ℕ) (s : List ℕ) → length s ≡ 0 → numeral base s ≡ none
+pub numeral-empty : (base : ℕ) (s : List ℕ) → length s ≡ 0 → numeral base s ≡ None
 unfolding numeral
 numeral-empty base [] h = refl
 numeral-empty base (b ∷ t) h = absurd (omega arith)
 
 -- ---- one digit
 
-hex_digit-back : (d : ℕ) → d < 16 → hex_digit (digit_byte d) ≡ some d
+hex_digit-back : (d : ℕ) → d < 16 → hex_digit (digit_byte d) ≡ Some d
 unfolding any first tabulate hex_digit digit_byte
 hex_digit-back d h =
-    go (hex_digit (digit_byte d)) (eqb-true _ d (each_holds 16 (λ (k : ℕ). eqb (get_or (hex_digit (digit_byte k)) 16) k) refl d h))
+    go (hex_digit (digit_byte d)) (eqb-true _ d (each_holds 16 (λ (k : ℕ). eqb (unwrap_or (hex_digit (digit_byte k)) 16) k) refl d h))
   where
-    go : (o : Option ℕ) → get_or o 16 ≡ d → o ≡ some d
-    go none e = absurd (omega arith)
-    go (some m) e = ap some e
+    go : (o : Option ℕ) → unwrap_or o 16 ≡ d → o ≡ Some d
+    go None e = absurd (omega arith)
+    go (Some m) e = ap Some e
 
-pub digit-back : (base d : ℕ) → base ≤ 16 → d < base → digit base (digit_byte d) ≡ some d
+pub digit-back : (base d : ℕ) → base ≤ 16 → d < base → digit base (digit_byte d) ≡ Some d
 unfolding digit
 digit-back base d small h = ap (below base) (hex_digit-back d (omega arith)) ∙ below-yes base d h
 
 -- ---- two hexadecimal digits
 
-pair_small : (a b v : ℕ) → numeral 16 (a ∷ b ∷ []) ≡ some v → v < 256
+pair_small : (a b v : ℕ) → numeral 16 (a ∷ b ∷ []) ≡ Some v → v < 256
 unfolding numeral value_from bind
 pair_small a b v = go (digit 16 a) (digit 16 b) (digit-below 16 a) (digit-below 16 b)
   where
-    go : (o p : Option ℕ) → ((d : ℕ) → o ≡ some d → d < 16) → ((d : ℕ) → p ≡ some d → d < 16)
-        → bind (map (λ (d : ℕ). 0 * 16 + d) o) (λ (m : ℕ). bind (map (λ (d : ℕ). m * 16 + d) p) (λ (k : ℕ). some k)) ≡ some v
+    go : (o p : Option ℕ) → ((d : ℕ) → o ≡ Some d → d < 16) → ((d : ℕ) → p ≡ Some d → d < 16)
+        → bind (option_map (λ (d : ℕ). 0 * 16 + d) o) (λ (m : ℕ). bind (option_map (λ (d : ℕ). m * 16 + d) p) (λ (k : ℕ). Some k)) ≡ Some v
         → v < 256
-    go none p high low e = absurd (none-ne-some v e)
-    go (some h) none high low e = absurd (none-ne-some v e)
-    go (some h) (some l) high low e =
+    go None p high low e = absurd (none-some v e)
+    go (Some h) None high low e = absurd (none-some v e)
+    go (Some h) (Some l) high low e =
         let value : (0 * 16 + h) * 16 + l ≡ v = cc in
         omega (arith, high h refl, low l refl)
 
 module _ (t : List ℕ) (i : ℕ) where
   -- they are a byte
-  pub hex_byte_at-small : (v : ℕ) → hex_byte_at t i ≡ some v → v < 256
+  pub hex_byte_at-small : (v : ℕ) → hex_byte_at t i ≡ Some v → v < 256
   hex_byte_at-small = pair_small (byte t i) (byte t (i + 1))
 
   pub hex_byte_at-below : below 256 (hex_byte_at t i) ≡ hex_byte_at t i
   hex_byte_at-below = below_all 256 (hex_byte_at t i) hex_byte_at-small
 
-  pub hex_byte_at-past : length t ≤ i → hex_byte_at t i ≡ none
+  pub hex_byte_at-past : length t ≤ i → hex_byte_at t i ≡ None
   unfolding numeral value_from bind digit below hex_digit
   hex_byte_at-past h = rw (← byte_past t i h)
 
@@ -187,15 +175,15 @@ value-append base n (b ∷ xs) ys = go (with_digit base n b) (λ m. value-append
   where
     go : (o : Option ℕ) → ((m : ℕ) → value_from base m (xs ++ ys) ≡ bind (value_from base m xs) (λ (k : ℕ). value_from base k ys))
         → bind o (λ (m : ℕ). value_from base m (xs ++ ys)) ≡ bind (bind o (λ (m : ℕ). value_from base m xs)) (λ (k : ℕ). value_from base k ys)
-    go none more = refl
-    go (some m) more = more m
+    go None more = refl
+    go (Some m) more = more m
 
-value-last : (base n : ℕ) (xs : List ℕ) → 0 < base → base ≤ 16 → value_from base 0 xs ≡ some (n / base)
-    → value_from base 0 (xs ++ (digit_byte (n % base) ∷ [])) ≡ some n
+value-last : (base n : ℕ) (xs : List ℕ) → 0 < base → base ≤ 16 → value_from base 0 xs ≡ Some (n / base)
+    → value_from base 0 (xs ++ (digit_byte (n % base) ∷ [])) ≡ Some n
 unfolding value_from bind
 value-last base n xs pos small e =
     value-append base 0 xs (digit_byte (n % base) ∷ [])
-    ∙ rw (e, digit-back base (n % base) small (mod-lt n pos)) (ap some (div-add-mod' n base))
+    ∙ rw (e, digit-back base (n % base) small (mod-lt n pos)) (ap Some (div-add-mod' n base))
 
 -- ---- the digits of a number
 
@@ -293,25 +281,25 @@ padded-length base zero n = refl
 padded-length base (suc k) n = omega (arith, length-append (padded k base (n / base)) (digit_byte (n % base) ∷ []), padded-length base k (n / base))
 
 -- the byte of a digit is no byte that is none
-digit_byte-never : (c : ℕ) → hex_digit c ≡ none → (d : ℕ) → d < 16 → digit_byte d ≡ c → ⊥
+digit_byte-never : (c : ℕ) → hex_digit c ≡ None → (d : ℕ) → d < 16 → digit_byte d ≡ c → ⊥
 digit_byte-never c other d h e = let back = hex_digit-back d h in let z : ◌≡◌ {A = ℕ} 0 1 = cc in omega arith
 
 module _ (base : ℕ) (two : 1 < base) (small : base ≤ 16) where
   last-small : (n : ℕ) → n % base < 16
   last-small n = omega (arith, mod-lt n {m = base} (omega arith))
 
-  value-digits : (n : ℕ) → value_from base 0 (digits base n) ≡ some n
+  value-digits : (n : ℕ) → value_from base 0 (digits base n) ≡ Some n
   unfolding value_from bind
   value-digits =
-      digits-made base two (λ (n : ℕ) (xs : List ℕ). value_from base 0 xs ≡ some n)
-      (λ n h. rw (digit-back base n small h) (ap some (omega (arith, zero-mul base))))
+      digits-made base two (λ (n : ℕ) (xs : List ℕ). value_from base 0 xs ≡ Some n)
+      (λ n h. rw (digit-back base n small h) (ap Some (omega (arith, zero-mul base))))
       (λ n xs h e. value-last base n xs (omega arith) small e)
 
   -- digits read back
-  pub numeral-digits : (n : ℕ) → numeral base (digits base n) ≡ some n
+  pub numeral-digits : (n : ℕ) → numeral base (digits base n) ≡ Some n
   numeral-digits n = numeral-value base (digits base n) (digits-some base two n) ∙ value-digits n
 
-  pub numeral_up_to-digits : (max n : ℕ) → n ≤ max → numeral_up_to base max (digits base n) ≡ some n
+  pub numeral_up_to-digits : (max n : ℕ) → n ≤ max → numeral_up_to base max (digits base n) ≡ Some n
   numeral_up_to-digits max n h = ap (below (max + 1)) (numeral-digits n) ∙ below-yes (max + 1) n (omega arith)
 
   pub digits-each : (P : ℕ → Type 0) → ((d : ℕ) → d < 16 → P (digit_byte d)) → (n : ℕ) → Each P (digits base n)
@@ -327,15 +315,15 @@ module _ (base : ℕ) (two : 1 < base) (small : base ≤ 16) where
       each_last P (padded k base (n / base)) (digit_byte (n % base)) (padded-each P each k (n / base)) (each (n % base) (last-small n))
 
   -- a byte that is no digit is not among them
-  pub digits-never : (c : ℕ) → hex_digit c ≡ none → (n : ℕ) → Each (λ (b : ℕ). b ≡ c → ⊥) (digits base n)
+  pub digits-never : (c : ℕ) → hex_digit c ≡ None → (n : ℕ) → Each (λ (b : ℕ). b ≡ c → ⊥) (digits base n)
   digits-never c other = digits-each (λ (b : ℕ). b ≡ c → ⊥) (digit_byte-never c other)
 
-  pub padded-never : (c : ℕ) → hex_digit c ≡ none → (k n : ℕ) → Each (λ (b : ℕ). b ≡ c → ⊥) (padded k base n)
+  pub padded-never : (c : ℕ) → hex_digit c ≡ None → (k n : ℕ) → Each (λ (b : ℕ). b ≡ c → ⊥) (padded k base n)
   padded-never c other = padded-each (λ (b : ℕ). b ≡ c → ⊥) (digit_byte-never c other)
 
-  value-padded : (k n : ℕ) → n < base ^ k → value_from base 0 (padded k base n) ≡ some n
+  value-padded : (k n : ℕ) → n < base ^ k → value_from base 0 (padded k base n) ≡ Some n
   unfolding padded value_from
-  value-padded zero n h = ap some (omega (arith, pow-zero base))
+  value-padded zero n h = ap Some (omega (arith, pow-zero base))
   value-padded (suc k) n h =
       let low : n < base ^ k * base = omega (arith, pow-suc base k) in
       let pos : 0 < base = omega arith in
@@ -343,7 +331,7 @@ module _ (base : ℕ) (two : 1 < base) (small : base ≤ 16) where
       value-last base n (padded k base (n / base)) pos small (value-padded k (n / base) less)
 
   -- the last k digits read back, where there are no more
-  pub numeral-padded : (k n : ℕ) → n < base ^ suc k → numeral base (padded (suc k) base n) ≡ some n
+  pub numeral-padded : (k n : ℕ) → n < base ^ suc k → numeral base (padded (suc k) base n) ≡ Some n
   numeral-padded k n h =
       numeral-value base (padded (suc k) base n) (omega (arith, padded-length base (suc k) n)) ∙ value-padded (suc k) n h
 
@@ -355,11 +343,11 @@ hex-length n h = digits-length 16 (omega arith) 3 n h
 pub decimal-length : (n : ℕ) → n < 256 → length (digits 10 n) ≤ 3
 decimal-length n h = digits-length 10 (omega arith) 2 n (omega arith)
 
-pub hex-byte-back : (b : ℕ) → b < 256 → numeral 16 (padded 2 16 b) ≡ some b
+pub hex-byte-back : (b : ℕ) → b < 256 → numeral 16 (padded 2 16 b) ≡ Some b
 hex-byte-back b h = numeral-padded 16 (omega arith) (omega arith) 1 b h
 
 -- where two digits lie in a text, they are read there
-pub hex_byte_at-lies : (t : List ℕ) (i b : ℕ) → b < 256 → Lies t i (padded 2 16 b) → hex_byte_at t i ≡ some b
+pub hex_byte_at-lies : (t : List ℕ) (i b : ℕ) → b < 256 → Lies t i (padded 2 16 b) → hex_byte_at t i ≡ Some b
 unfolding padded
 hex_byte_at-lies t i b h lies =
     ap₂ (λ (x y : ℕ). numeral 16 (x ∷ y ∷ [])) (ap (byte t) (sym (add-zero i)) ∙ lies 0 (omega arith)) (lies 1 (omega arith))
@@ -380,11 +368,11 @@ is_hex-digits n =
     and_no true = refl
     and_no false = refl
 
-pub number_digits : (n : ℕ) → number (digits 10 n) ≡ some n
+pub number_digits : (n : ℕ) → number (digits 10 n) ≡ Some n
 unfolding number
 number_digits n = rw (is_hex-digits n) (numeral-digits 10 (omega arith) (omega arith) n)
 
-pub number_up_to-digits : (max n : ℕ) → n ≤ max → number_up_to max (digits 10 n) ≡ some n
+pub number_up_to-digits : (max n : ℕ) → n ≤ max → number_up_to max (digits 10 n) ≡ Some n
 number_up_to-digits max n h = ap (below (max + 1)) (number_digits n) ∙ below-yes (max + 1) n (omega arith)
 
 -- ---- digits put into room

@@ -1,13 +1,11 @@
 -- An IP address of 16 bytes and its text. Assumes nothing: these are definitions.
-use Rattle.std.specs.Prelude.{List, [], ◌∷◌, ◌++◌, Bool, true, false, cond, ◌&&◌, ℕ, zero, suc, ◌+◌, ◌-◌, ◌*◌, ◌/◌, ◌%◌, length, take, drop, eqb, leb, ltb}
-use Rattle.std.proofs.Math.Option.{Option, none, some}
+use Rattle.std.specs.Prelude.{List, [], ◌∷◌, ◌++◌, Bool, true, false, cond, ◌&&◌, ℕ, zero, suc, ◌+◌, ◌-◌, ◌*◌, ◌/◌, ◌%◌, length, take, drop, eqb, leb, ltb, Option, None, Some}
 use Prim.Native.Char.{code}
 use Rattle.octets.specs.Counting.{first, tabulate}
 use Rattle.octets.specs.Octets.{byte, zeros, differs}
 use Rattle.text.specs.Split.{index_of, pieces, join}
 use Rattle.notation.specs.Number.{numeral_up_to, digits}
 use Rattle.notation.specs.declared.address.Run.{Run}
-use Rattle.notation.specs.declared.address.AddressRead.{AddressRead}
 
 -- ---- bytes and tests
 
@@ -27,32 +25,32 @@ holds b t = ltb (index_of b t) (length t)
 
 -- the bytes of two texts, one behind the other; both must have the form
 abbrev pub both : Option (List ℕ) → Option (List ℕ) → Option (List ℕ)
-both none y = none
-both (some xs) none = none
-both (some xs) (some ys) = some (xs ++ ys)
+both None y = None
+both (Some xs) None = None
+both (Some xs) (Some ys) = Some (xs ++ ys)
 
 -- exactly n bytes
 abbrev pub exactly : ℕ → Option (List ℕ) → Option (List ℕ)
-exactly n none = none
-exactly n (some xs) = cond (eqb (length xs) n) (some xs) none
+exactly n None = None
+exactly n (Some xs) = cond (eqb (length xs) n) (Some xs) None
 
 -- the number of a text of one to `most` digits, where it is at most `max`
 unfoldable pub short : ℕ → ℕ → ℕ → List ℕ → Option ℕ
-short base most max t = cond (leb (length t) most) (numeral_up_to base max t) none
+short base most max t = cond (leb (length t) most) (numeral_up_to base max t) None
 
 -- a number as one byte
 abbrev pub one_byte : Option ℕ → Option (List ℕ)
-one_byte none = none
-one_byte (some v) = some (v ∷ [])
+one_byte None = None
+one_byte (Some v) = Some (v ∷ [])
 
 -- a number as two bytes, the high byte first
 abbrev pub two_bytes : Option ℕ → Option (List ℕ)
-two_bytes none = none
-two_bytes (some v) = some (v / 256 ∷ v % 256 ∷ [])
+two_bytes None = None
+two_bytes (Some v) = Some (v / 256 ∷ v % 256 ∷ [])
 
 -- the bytes of all pieces, each read by the rule, but the last by a rule of its own
 unfoldable pub bytes_of : (List ℕ → Option (List ℕ)) → (List ℕ → Option (List ℕ)) → List (List ℕ) → Option (List ℕ)
-bytes_of rule last [] = some []
+bytes_of rule last [] = Some []
 bytes_of rule last (p ∷ []) = last p
 bytes_of rule last (p ∷ (q ∷ ps)) = both (rule p) (bytes_of rule last (q ∷ ps))
 
@@ -78,7 +76,7 @@ groups four t = bytes_of group (last_group four) (pieces colon t)
 
 -- the same, or nothing: what stands on one side of `::`
 unfoldable pub side : Bool → List ℕ → Option (List ℕ)
-side four t = cond (eqb (length t) 0) (some []) (groups four t)
+side four t = cond (eqb (length t) 0) (Some []) (groups four t)
 
 -- the place of the first `::`, or the length where there is none
 unfoldable pub gap_at : List ℕ → ℕ
@@ -86,10 +84,10 @@ gap_at t = first (length t) (λ (k : ℕ). eqb (byte t k) colon && eqb (byte t (
 
 -- the bytes before and behind `::`, at most 14, with zeros between to make them 16
 abbrev pub filled : Option (List ℕ) → Option (List ℕ) → Option (List ℕ)
-filled none y = none
-filled (some xs) none = none
-filled (some xs) (some ys) =
-    cond (leb (length xs + length ys) 14) (some (xs ++ (zeros (16 - (length xs + length ys)) ++ ys))) none
+filled None y = None
+filled (Some xs) None = None
+filled (Some xs) (Some ys) =
+    cond (leb (length xs + length ys) 14) (Some (xs ++ (zeros (16 - (length xs + length ys)) ++ ys))) None
 
 -- IPv6 with `::` at place g: before it no IPv4
 unfoldable pub with_gap : List ℕ → ℕ → Option (List ℕ)
@@ -109,17 +107,12 @@ mapped xs = zeros 10 ++ (255 ∷ 255 ∷ xs)
 
 -- IPv4 as such an address
 abbrev pub mapped_four : Option (List ℕ) → Option (List ℕ)
-mapped_four none = none
-mapped_four (some xs) = some (mapped xs)
+mapped_four None = None
+mapped_four (Some xs) = Some (mapped xs)
 
 -- the address that a text is: IPv6 where it holds a colon, IPv4 where it holds none
 unfoldable pub read_address : List ℕ → Option (List ℕ)
 read_address t = cond (holds colon t) (read_six t) (mapped_four (four_bytes t))
-
--- what `read_address` answers: the address, or 16 zeros beside `ok` false
-abbrev pub address_read : Option (List ℕ) → AddressRead
-address_read none = record { ok = false; bytes = zeros 16 }
-address_read (some a) = record { ok = true; bytes = a }
 
 -- ---- writing
 

@@ -1,6 +1,6 @@
 -- Worked cases by computation: texts and the addresses that they are, texts that are none, and addresses as they are written.
-use Rattle.std.specs.Prelude.{ℕ, ◌/◌, ◌%◌, ◌≡◌, refl, List, [], ◌∷◌, map}
-use Rattle.std.proofs.Math.Option.{none, some, bind}
+use Rattle.octets.specs.Options.{bind}
+use Rattle.std.specs.Prelude.{ℕ, ◌/◌, ◌%◌, ◌≡◌, refl, List, [], ◌∷◌, map, None, Some}
 use Rattle.text.specs.Put.{ascii}
 use Rattle.octets.specs.Computing.{computing as octets}
 use Rattle.text.specs.Split.{before, pieces_by, join}
@@ -54,7 +54,7 @@ reads : map read_address (
     ∷ ascii "::ffff:1.2.3.4"
     ∷ ascii "1::2:3:4:5:6:7"
     ∷ [])
-    ≡ map some (
+    ≡ map Some (
     eight 0 0 0 0 0 0xffff 0xc0a8 0x4632
     ∷ eight 0 0 0 0 0 0xffff 0x0102 0x03ff
     ∷ eight 0 0 0 0 0 0 0 0
@@ -92,7 +92,7 @@ bad =
     ∷ ascii "g::"
     ∷ []
 
-refuses : map read_address bad ≡ map (λ (t : List ℕ). none) bad
+refuses : map read_address bad ≡ map (λ (t : List ℕ). None) bad
 unfolding computing bad
 refuses = refl
 

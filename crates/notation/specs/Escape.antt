@@ -1,15 +1,12 @@
--- Strings as text, in the words of the record's format: "The bytes as they are. `\x_h_h` is the byte with that hexadecimal number
--- and `\\` is a backslash; no other byte may follow a backslash. Bytes below 0x20 and the byte 0x7f are written as `\x_h_h`. `""`
+-- Strings as text, in the words of the record's format: "The bytes as they are. `\xHH` is the byte with that hexadecimal number
+-- and `\\` is a backslash; no other byte may follow a backslash. Bytes below 0x20 and the byte 0x7f are written as `\xHH`. `""`
 -- alone is the empty string. A string that begins or ends with a space has it as `\x20`." `code` is a character's number.
 -- Assumes nothing: these are definitions.
-use Rattle.std.specs.Prelude.{ℕ, ◌+◌, List, [], ◌∷◌, Bool, cond, ◌&&◌, length, eqb, leb, ltb}
+use Rattle.std.specs.Prelude.{ℕ, ◌+◌, List, [], ◌∷◌, Bool, cond, ◌&&◌, length, eqb, leb, ltb, Option, None, Some}
 use Prim.Native.Char.{code}
-use Rattle.std.proofs.Math.Option.{Option, none, some}
 use Rattle.octets.specs.Counting.{gather}
 use Rattle.octets.specs.Octets.{byte, differs}
 use Rattle.notation.specs.Number.{within, numeral, padded}
-use Rattle.notation.specs.declared.escape.Decoded.{Decoded}
-use Rattle.notation.specs.declared.escape.Decoded.TheVariants.{Length, Bad}
 
 abbrev pub backslash : ℕ
 backslash = code "\\"
@@ -25,25 +22,25 @@ bare b = leb 0x20 b && differs b 0x7f
 
 -- a byte and the rest of a string behind it, where there are both
 abbrev pub joined : Option ℕ → Option (List ℕ) → Option (List ℕ)
-joined none rest = none
-joined (some b) none = none
-joined (some b) (some s) = some (b ∷ s)
+joined None rest = None
+joined (Some b) None = None
+joined (Some b) (Some s) = Some (b ∷ s)
 
 unfoldable mutual
   -- the bytes that the text stands for, piece by piece
   pub bytes_of : List ℕ → Option (List ℕ)
-  bytes_of [] = some []
-  bytes_of (b ∷ t) = cond (eqb b backslash) (escaped t) (cond (bare b) (joined (some b) (bytes_of t)) none)
+  bytes_of [] = Some []
+  bytes_of (b ∷ t) = cond (eqb b backslash) (escaped t) (cond (bare b) (joined (Some b) (bytes_of t)) None)
 
   -- .. behind a backslash: a second one, or x and a number
   pub escaped : List ℕ → Option (List ℕ)
-  escaped [] = none
-  escaped (b ∷ t) = cond (eqb b backslash) (joined (some backslash) (bytes_of t)) (cond (eqb b (code "x")) (numbered t) none)
+  escaped [] = None
+  escaped (b ∷ t) = cond (eqb b backslash) (joined (Some backslash) (bytes_of t)) (cond (eqb b (code "x")) (numbered t) None)
 
   -- .. behind `\x`: two hexadecimal digits
   pub numbered : List ℕ → Option (List ℕ)
-  numbered [] = none
-  numbered (h ∷ []) = none
+  numbered [] = None
+  numbered (h ∷ []) = None
   numbered (h ∷ (l ∷ t)) = joined (numeral 16 (h ∷ (l ∷ []))) (bytes_of t)
 
 -- the text is two quotes
@@ -52,18 +49,13 @@ is_quotes t = eqb (length t) 2 && eqb (byte t 0) quote && eqb (byte t 1) quote
 
 -- the string that a text stands for: two quotes are the empty string, no text is no string
 unfoldable pub string_of : List ℕ → Option (List ℕ)
-string_of [] = none
-string_of (b ∷ t) = cond (is_quotes (b ∷ t)) (some []) (bytes_of (b ∷ t))
-
--- its length, as the code answers it
-abbrev pub answer_of : Option (List ℕ) → Decoded
-answer_of none = Bad
-answer_of (some s) = Length (length s)
+string_of [] = None
+string_of (b ∷ t) = cond (is_quotes (b ∷ t)) (Some []) (bytes_of (b ∷ t))
 
 -- its bytes; none where there is no string
 abbrev pub content_of : Option (List ℕ) → List ℕ
-content_of none = []
-content_of (some s) = s
+content_of None = []
+content_of (Some s) = s
 
 -- ---- the text of a string
 

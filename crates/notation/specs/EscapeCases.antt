@@ -1,6 +1,6 @@
 -- Worked cases by computation: texts at the edges of each rule and what they stand for, strings and how they are written.
-use Rattle.std.specs.Prelude.{◌≡◌, refl, List, [], ◌∷◌, ◌++◌, map, ℕ}
-use Rattle.std.proofs.Math.Option.{Option, none, some, bind}
+use Rattle.octets.specs.Options.{bind}
+use Rattle.std.specs.Prelude.{◌≡◌, refl, List, [], ◌∷◌, ◌++◌, map, ℕ, Option, None, Some}
 use Prim.Native.String.{String}
 use Rattle.octets.specs.Counting.{tabulate, gather}
 use Rattle.text.specs.Put.{ascii}
@@ -13,10 +13,10 @@ record Case : Type 0 where
   string : Option (List ℕ)
 
 good : String → List ℕ → Case
-good t s = record { text = ascii t; string = some s }
+good t s = record { text = ascii t; string = Some s }
 
 refused : List ℕ → Case
-refused t = record { text = t; string = none }
+refused t = record { text = t; string = None }
 
 cases : List Case
 cases =
@@ -54,7 +54,7 @@ unfolding tabulate bind hex_digit below digit value_from numeral bytes_of string
 cases-hold = refl
 
 -- bytes from 0x80 on stand for themselves
-high-bytes : string_of (128 ∷ 255 ∷ []) ≡ some (128 ∷ 255 ∷ [])
+high-bytes : string_of (128 ∷ 255 ∷ []) ≡ Some (128 ∷ 255 ∷ [])
 unfolding bytes_of string_of
 high-bytes = refl
 

@@ -13,3 +13,4 @@ pub mod AddressCases
 pub mod Escape
 pub mod EscapeWalk
 pub mod EscapeCases
+pub mod Value

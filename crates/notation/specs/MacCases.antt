@@ -1,13 +1,13 @@
 -- Worked cases by computation: MAC addresses at the edges of each rule.
-use Rattle.std.specs.Prelude.{◌≡◌, refl, [], ◌∷◌, map}
-use Rattle.std.proofs.Math.Option.{none, some, bind}
+use Rattle.octets.specs.Options.{bind}
+use Rattle.std.specs.Prelude.{◌≡◌, refl, [], ◌∷◌, map, None, Some}
 use Rattle.octets.specs.Counting.{first, any, tabulate, gather}
 use Rattle.text.specs.Put.{ascii}
 use Rattle.notation.specs.Number.{hex_digit, below, digit, value_from, numeral, digit_byte, padded}
 use Rattle.notation.specs.Pairs.{pairs_form, every, read_pairs, pairs_text}
 use Rattle.notation.specs.Mac.{read_mac, mac_text}
 
-good : map read_mac (ascii "02:00:5e:10:00:07" ∷ ascii "02:00:5E:10:00:07" ∷ []) ≡ some (2 ∷ 0 ∷ 94 ∷ 16 ∷ 0 ∷ 7 ∷ []) ∷ some (2 ∷ 0 ∷ 94 ∷ 16 ∷ 0 ∷ 7 ∷ []) ∷ []
+good : map read_mac (ascii "02:00:5e:10:00:07" ∷ ascii "02:00:5E:10:00:07" ∷ []) ≡ Some (2 ∷ 0 ∷ 94 ∷ 16 ∷ 0 ∷ 7 ∷ []) ∷ Some (2 ∷ 0 ∷ 94 ∷ 16 ∷ 0 ∷ 7 ∷ []) ∷ []
 unfolding first any tabulate bind hex_digit below digit value_from numeral pairs_form every read_pairs read_mac
 good = refl
 
@@ -22,7 +22,7 @@ bad : map read_mac
     ∷ ascii "2:000:5e:10:00:07"
     ∷ ascii "02:00:5e:10:00:07 "
     ∷ [])
-    ≡ none ∷ none ∷ none ∷ none ∷ none ∷ none ∷ none ∷ none ∷ none ∷ []
+    ≡ None ∷ None ∷ None ∷ None ∷ None ∷ None ∷ None ∷ None ∷ None ∷ []
 unfolding first any tabulate bind hex_digit below digit value_from numeral pairs_form every read_pairs read_mac
 bad = refl
 

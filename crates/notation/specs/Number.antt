@@ -1,11 +1,9 @@
 -- Numbers as they are written, in digits of a base of at most 16. Assumes nothing: these are definitions.
-use Rattle.std.specs.Prelude.{ℕ, zero, suc, ◌+◌, ◌-◌, ◌*◌, ◌/◌, ◌%◌, Bool, cond, ◌&&◌, List, [], ◌∷◌, ◌++◌, drop, leb, ltb, eqb}
+use Rattle.octets.specs.Options.{bind}
+use Rattle.std.specs.Prelude.{ℕ, zero, suc, ◌+◌, ◌-◌, ◌*◌, ◌/◌, ◌%◌, Bool, cond, ◌&&◌, List, [], ◌∷◌, ◌++◌, drop, leb, ltb, eqb, Option, None, Some, option_map}
 use Prim.Native.Char.{code}
-use Rattle.std.proofs.Math.Option.{Option, none, some, map, bind}
 use Rattle.octets.specs.Octets.{byte}
 use Rattle.text.specs.Put.{ascii}
-use Rattle.notation.specs.declared.number.Number.{Number}
-use Rattle.notation.specs.declared.number.Number.TheVariants.{Value, Bad}
 
 -- ---- reading
 
@@ -16,14 +14,14 @@ within a z b = leb a b && leb b z
 -- the value of a hexadecimal digit, a small or a capital letter
 unfoldable pub hex_digit : ℕ → Option ℕ
 hex_digit b =
-    cond (within (code "0") (code "9") b) (some (b - code "0"))
-    (cond (within (code "a") (code "f") b) (some (b - code "a" + 10))
-    (cond (within (code "A") (code "F") b) (some (b - code "A" + 10)) none))
+    cond (within (code "0") (code "9") b) (Some (b - code "0"))
+    (cond (within (code "a") (code "f") b) (Some (b - code "a" + 10))
+    (cond (within (code "A") (code "F") b) (Some (b - code "A" + 10)) None))
 
 -- the number where it is below the limit
 unfoldable pub below : ℕ → Option ℕ → Option ℕ
-below limit none = none
-below limit (some n) = cond (ltb n limit) (some n) none
+below limit None = None
+below limit (Some n) = cond (ltb n limit) (Some n) None
 
 -- the value of a digit in a base of at most 16
 unfoldable pub digit : ℕ → ℕ → Option ℕ
@@ -31,16 +29,16 @@ digit base b = below base (hex_digit b)
 
 -- the number n with the digit b behind it
 abbrev pub with_digit : ℕ → ℕ → ℕ → Option ℕ
-with_digit base n b = map (λ (d : ℕ). n * base + d) (digit base b)
+with_digit base n b = option_map (λ (d : ℕ). n * base + d) (digit base b)
 
 -- the number n with the digits t behind it
 unfoldable pub value_from : ℕ → ℕ → List ℕ → Option ℕ
-value_from base n [] = some n
+value_from base n [] = Some n
 value_from base n (b ∷ t) = bind (with_digit base n b) (λ (m : ℕ). value_from base m t)
 
 -- the number that one or more digits are
 unfoldable pub numeral : ℕ → List ℕ → Option ℕ
-numeral base [] = none
+numeral base [] = None
 numeral base (b ∷ t) = value_from base 0 (b ∷ t)
 
 -- whether 0x stands in front
@@ -61,11 +59,6 @@ number_up_to max t = below (max + 1) (number t)
 -- the byte that the two hexadecimal digits at i are. (Past the end stands 0, which is no digit.)
 abbrev pub hex_byte_at : List ℕ → ℕ → Option ℕ
 hex_byte_at t i = numeral 16 (byte t i ∷ byte t (i + 1) ∷ [])
-
--- what a call answers for a number that is read
-unfoldable pub answer : Option ℕ → Number
-answer none = Bad
-answer (some n) = Value n
 
 -- ---- writing
 

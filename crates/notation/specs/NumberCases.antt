@@ -1,6 +1,6 @@
 -- Worked cases by computation: numbers at the edges of each rule.
-use Rattle.std.specs.Prelude.{◌≡◌, refl, List, [], ◌∷◌, map, ℕ}
-use Rattle.std.proofs.Math.Option.{Option, none, some, bind}
+use Rattle.octets.specs.Options.{bind}
+use Rattle.std.specs.Prelude.{◌≡◌, refl, List, [], ◌∷◌, map, ℕ, Option, None, Some}
 use Prim.Native.String.{String}
 use Rattle.octets.specs.Counting.{tabulate}
 use Rattle.text.specs.Put.{ascii}
@@ -12,10 +12,10 @@ record Case : Type 0 where
   value : Option ℕ
 
 reads : String → ℕ → Case
-reads s n = record { text = ascii s; value = some n }
+reads s n = record { text = ascii s; value = Some n }
 
 refused : String → Case
-refused s = record { text = ascii s; value = none }
+refused s = record { text = ascii s; value = None }
 
 cases : List Case
 cases =

@@ -1,8 +1,8 @@
 -- Bytes as they are written: n pairs of hexadecimal digits, at least one, with colons between. A MAC address is six of them.
 -- Assumes nothing: these are definitions.
-use Rattle.std.specs.Prelude.{ℕ, ◌+◌, ◌-◌, ◌*◌, Bool, true, false, cond, not, ◌&&◌, List, [], ◌∷◌, ◌++◌, length, eqb}
+use Rattle.octets.specs.Options.{bind}
+use Rattle.std.specs.Prelude.{ℕ, ◌+◌, ◌-◌, ◌*◌, Bool, true, false, cond, not, ◌&&◌, List, [], ◌∷◌, ◌++◌, length, eqb, Option, None, Some, option_map, unwrap_or}
 use Prim.Native.Char.{code}
-use Rattle.std.proofs.Math.Option.{Option, none, some, map, bind}
 use Rattle.octets.specs.Counting.{any, tabulate, gather}
 use Rattle.octets.specs.Octets.{byte, differs}
 use Rattle.notation.specs.Number.{hex_byte_at, padded}
@@ -15,30 +15,26 @@ pairs_form n t = eqb (length t + 1) (3 * n) && not (any (n - 1) (λ (k : ℕ). d
 
 -- the numbers, where all of them are there
 unfoldable pub every : List (Option ℕ) → Option (List ℕ)
-every [] = some []
-every (o ∷ os) = bind o (λ (n : ℕ). map (λ (ns : List ℕ). n ∷ ns) (every os))
+every [] = Some []
+every (o ∷ os) = bind o (λ (n : ℕ). option_map (λ (ns : List ℕ). n ∷ ns) (every os))
 
 -- the n bytes that the text says
 unfoldable pub read_pairs : ℕ → List ℕ → Option (List ℕ)
-read_pairs n t = cond (pairs_form n t) (every (tabulate (λ (k : ℕ). hex_byte_at t (3 * k)) 0 n)) none
+read_pairs n t = cond (pairs_form n t) (every (tabulate (λ (k : ℕ). hex_byte_at t (3 * k)) 0 n)) None
 
 -- whether it says n bytes
 unfoldable pub is_read : Option (List ℕ) → Bool
-is_read none = false
-is_read (some m) = true
+is_read None = false
+is_read (Some m) = true
 
 -- what lent bytes are then: those of the text, or what they were
 unfoldable pub read_into : List ℕ → Option (List ℕ) → List ℕ
-read_into old none = old
-read_into old (some m) = m
+read_into old None = old
+read_into old (Some m) = m
 
 -- the byte that the pair at i is; 0 where there is no pair
-unfoldable pub or_zero : Option ℕ → ℕ
-or_zero none = 0
-or_zero (some b) = b
-
 abbrev pub pair_at : List ℕ → ℕ → ℕ
-pair_at t i = or_zero (hex_byte_at t i)
+pair_at t i = unwrap_or (hex_byte_at t i) 0
 
 -- ---- writing
 

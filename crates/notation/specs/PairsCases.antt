@@ -1,13 +1,13 @@
 -- Worked cases by computation: other numbers of pairs than a MAC address has.
-use Rattle.std.specs.Prelude.{◌≡◌, refl, [], ◌∷◌}
-use Rattle.std.proofs.Math.Option.{none, some, bind}
+use Rattle.octets.specs.Options.{bind}
+use Rattle.std.specs.Prelude.{◌≡◌, refl, [], ◌∷◌, None, Some}
 use Rattle.octets.specs.Counting.{first, any, tabulate, gather}
 use Rattle.text.specs.Put.{ascii}
 use Rattle.notation.specs.Number.{hex_digit, below, digit, value_from, numeral, digit_byte, padded}
 use Rattle.notation.specs.Pairs.{pairs_form, every, read_pairs, pairs_text}
 
 read : read_pairs 1 (ascii "fF") ∷ read_pairs 8 (ascii "00:01:00:00:00:00:00:80") ∷ read_pairs 8 (ascii "00:01:00:00:00:00:00") ∷ read_pairs 0 (ascii "") ∷ []
-    ≡ some (255 ∷ []) ∷ some (0 ∷ 1 ∷ 0 ∷ 0 ∷ 0 ∷ 0 ∷ 0 ∷ 128 ∷ []) ∷ none ∷ none ∷ []
+    ≡ Some (255 ∷ []) ∷ Some (0 ∷ 1 ∷ 0 ∷ 0 ∷ 0 ∷ 0 ∷ 0 ∷ 128 ∷ []) ∷ None ∷ None ∷ []
 unfolding first any tabulate bind hex_digit below digit value_from numeral pairs_form every read_pairs
 read = refl
 

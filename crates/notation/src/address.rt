@@ -1,35 +1,20 @@
 // An IP address of 16 bytes, read from text and put as text. Bytes are gathered in room of one byte more than they may be: a
-// text that is not of the form, and one of too many bytes, both end at the room's end.
+// text that is not of the form, and one of too many bytes, both end at the room's end. (No Option there: a full room settles
+// the answer before the rest is read, and an Option would have to tell which of the two it is.)
 ghost use Rattle.std.specs.Prelude.{◌≡◌, ◌+◌, ◌≤◌, ◌<◌, length};
-ghost use Rattle.std.proofs.Math.Option.{none};
 ghost use Rattle.octets.specs.Octets.{bytes_at};
 ghost use Rattle.text.specs.Put.{Puts};
 ghost use Rattle.text.specs.Split.{pieces};
-ghost use Rattle.notation.specs.Number.{answer};
 ghost use Rattle.notation.specs.Address.{dot, short, bytes_of, decimal, four_bytes, group, last_group, groups, side, gap_at, with_gap};
-ghost use Rattle.notation.specs.Address.{without_gap, read_six, mapped_four, read_address, address_read, group_at, zero_run, longest};
+ghost use Rattle.notation.specs.Address.{without_gap, read_six, mapped_four, read_address, group_at, zero_run, longest};
 ghost use Rattle.notation.specs.Address.{six_text, is_mapped, address_text};
-ghost use Rattle.notation.specs.AddressSteps.{Gathers, four_read, separator, number_text, numbers_text};
+ghost use Rattle.notation.specs.AddressSteps.{Gathers, separator, number_text, numbers_text};
 
-use crate::number::{Number, put_decimal, put_hex, read_numeral};
-use octets::read::{byte_at, part, sixteen_at};
+use crate::number::{put_decimal, put_hex, read_numeral};
+use octets::read::{array_at, byte_at, part};
 use octets::write::put_bytes;
 use text::put::{put_char, put_text};
 use text::split::index_of;
-
-// The address that a text is; all 0 where it is none.
-#[derive(Clone, Copy)]
-pub struct AddressRead {
-    pub ok: bool,
-    pub bytes: [u8; 16],
-}
-
-// The four bytes that a text of IPv4 is; all 0 where it is none.
-#[derive(Clone, Copy)]
-struct FourRead {
-    ok: bool,
-    bytes: [u8; 4],
-}
 
 // Groups of an address: the first of them, and how many they are.
 #[derive(Clone, Copy)]
@@ -41,11 +26,11 @@ struct Run {
 // ---- reading
 
 // The number of one to `most` digits, where it is at most max.
-fn short_numeral(base: u8, most: usize, max: u64, s: &[u8]) -> Number
-    ensures { result ≡ answer (short base most max s.now) }
+fn short_numeral(base: u8, most: usize, max: u64, s: &[u8]) -> Option<u64>
+    ensures { result ≡ short base most max s.now }
 {
     if most < s.len() {
-        return Number::Bad;
+        return None;
     }
     read_numeral(base, max, s)
 }
@@ -54,7 +39,7 @@ fn short_numeral(base: u8, most: usize, max: u64, s: &[u8]) -> Number
 fn gather_decimal(room: &mut [u8], at: usize, s: &[u8]) -> usize
     ensures { Gathers room.old room.new at result (decimal s.now) }
 {
-    let Number::Value(v) = short_numeral(10, 3, 255, s) else {
+    let Some(v) = short_numeral(10, 3, 255, s) else {
         return room.len();
     };
     put_char(room, at, v as u8)
@@ -77,32 +62,24 @@ fn gather_decimals(room: &mut [u8], at: usize, s: &[u8]) -> usize
 }
 
 // The four bytes that s is as IPv4.
-fn read_four(s: &[u8]) -> FourRead
-    ensures { result ≡ four_read (four_bytes s.now) }
+fn read_four(s: &[u8]) -> Option<[u8; 4]>
+    ensures { result ≡ four_bytes s.now }
 {
     let mut room = [0u8; 5];
-    let end = gather_decimals(&mut room, 0, s);
-    if end != 4 {
-        return FourRead {
-            ok: false,
-            bytes: [0, 0, 0, 0],
-        };
+    if gather_decimals(&mut room, 0, s) != 4 {
+        return None;
     }
-    FourRead {
-        ok: true,
-        bytes: [room[0], room[1], room[2], room[3]],
-    }
+    Some(array_at(&room, 0))
 }
 
 // Puts the two bytes that s is as a group.
 fn gather_group(room: &mut [u8], at: usize, s: &[u8]) -> usize
     ensures { Gathers room.old room.new at result (group s.now) }
 {
-    let Number::Value(v) = short_numeral(16, 4, 65535, s) else {
+    let Some(v) = short_numeral(16, 4, 65535, s) else {
         return room.len();
     };
-    let low = put_char(room, at, (v / 256) as u8);
-    put_char(room, low, (v % 256) as u8)
+    put_text(room, at, &(v as u16).to_be_bytes())
 }
 
 // Puts the bytes that s is as the last group: as IPv4 where it holds a dot and `four` allows it.
@@ -115,15 +92,14 @@ fn gather_last(room: &mut [u8], at: usize, s: &[u8], four: bool) -> usize
     if s.len() <= index_of(s, b'.') {
         return gather_group(room, at, s);
     }
-    let read = read_four(s);
-    if !read.ok {
-        return room.len();
+    match read_four(s) {
+        Some(bytes) => put_text(room, at, &bytes),
+        None => room.len(),
     }
-    let bytes = read.bytes;
-    put_text(room, at, &bytes)
 }
 
-// Puts the bytes that s is, groups with colons between. (A full room ends it: the answer is settled.)
+// Puts the bytes that s is, groups with colons between. (A full room ends it: the answer is settled. Not one function with
+// `gather_decimals`: the last group has a rule of its own, which calls that, so it would call itself through a closure.)
 fn gather_groups(room: &mut [u8], at: usize, s: &[u8], four: bool) -> usize
     ensures { Gathers room.old room.new at result (groups four s.now) }
 {
@@ -154,63 +130,44 @@ fn gather_side(room: &mut [u8], s: &[u8], four: bool) -> usize
 fn gap_at(s: &[u8]) -> usize
     ensures { result ≡ gap_at s.now }
 {
-    let mut k = 0;
-    while k < s.len() {
-        if (s[k] == b':') & (byte_at(s, k + 1) == b':') {
+    for (k, b) in s.iter().enumerate() {
+        if (*b == b':') & (byte_at(s, k + 1) == b':') {
             return k;
         }
-        k += 1;
     }
-    k
-}
-
-// The answer for a text that is no address.
-fn no_address() -> AddressRead
-    ensures { result ≡ address_read none }
-{
-    AddressRead {
-        ok: false,
-        bytes: [0u8; 16],
-    }
+    s.len()
 }
 
 // The address that s is as IPv6 without `::`.
-fn read_plain(s: &[u8]) -> AddressRead
-    ensures { result ≡ address_read (without_gap s.now) }
+fn read_plain(s: &[u8]) -> Option<[u8; 16]>
+    ensures { result ≡ without_gap s.now }
 {
     let mut room = [0u8; 17];
-    let end = gather_groups(&mut room, 0, s, true);
-    if end != 16 {
-        return no_address();
+    if gather_groups(&mut room, 0, s, true) != 16 {
+        return None;
     }
-    AddressRead {
-        ok: true,
-        bytes: sixteen_at(&room, 0),
-    }
+    Some(array_at(&room, 0))
 }
 
 // The address that s is as IPv6 with `::` at `gap`: the bytes before it from the start on, those behind it up to the end.
-fn read_around(s: &[u8], gap: usize) -> AddressRead
+fn read_around(s: &[u8], gap: usize) -> Option<[u8; 16]>
     requires { gap < length s.now }
-    ensures { result ≡ address_read (with_gap s.now gap) }
+    ensures { result ≡ with_gap s.now gap }
 {
     let mut room = [0u8; 17];
     let mut back = [0u8; 17];
     let n = gather_side(&mut room, part(s, 0, gap), false);
     let m = gather_side(&mut back, part(s, gap + 2, s.len()), true);
     if 14 < n + m {
-        return no_address();
+        return None;
     }
     put_bytes(&mut room, 16 - m, part(&back, 0, m));
-    AddressRead {
-        ok: true,
-        bytes: sixteen_at(&room, 0),
-    }
+    Some(array_at(&room, 0))
 }
 
 // The address that s is as IPv6.
-fn read_six(s: &[u8]) -> AddressRead
-    ensures { result ≡ address_read (read_six s.now) }
+fn read_six(s: &[u8]) -> Option<[u8; 16]>
+    ensures { result ≡ read_six s.now }
 {
     let gap = gap_at(s);
     if gap < s.len() {
@@ -220,25 +177,18 @@ fn read_six(s: &[u8]) -> AddressRead
 }
 
 // The IPv4-mapped address that s is as IPv4.
-fn read_mapped(s: &[u8]) -> AddressRead
-    ensures { result ≡ address_read (mapped_four (four_bytes s.now)) }
+fn read_mapped(s: &[u8]) -> Option<[u8; 16]>
+    ensures { result ≡ mapped_four (four_bytes s.now) }
 {
-    let read = read_four(s);
-    if !read.ok {
-        return no_address();
-    }
-    let b = read.bytes;
-    AddressRead {
-        ok: true,
-        bytes: [
-            0, 0, 0, 0, 0, 0, 0, 0, 0, 0, 255, 255, b[0], b[1], b[2], b[3],
-        ],
-    }
+    let b = read_four(s)?;
+    Some([
+        0, 0, 0, 0, 0, 0, 0, 0, 0, 0, 255, 255, b[0], b[1], b[2], b[3],
+    ])
 }
 
 // The address that s is: IPv6 where it holds a colon, IPv4 where it holds none.
-pub fn read_address(s: &[u8]) -> AddressRead
-    ensures { result ≡ address_read (read_address s.now) }
+pub fn read_address(s: &[u8]) -> Option<[u8; 16]>
+    ensures { result ≡ read_address s.now }
 {
     if index_of(s, b':') < s.len() {
         return read_six(s);
@@ -253,7 +203,7 @@ fn group_at(a: &[u8], k: u8) -> u16
     ensures { result ≡ group_at a.now k }
 {
     let place = 2 * k as usize;
-    256 * byte_at(a, place) as u16 + byte_at(a, place + 1) as u16
+    u16::from_be_bytes([byte_at(a, place), byte_at(a, place + 1)])
 }
 
 // How many of the n groups from k on are zero before the first that is not.
@@ -261,14 +211,12 @@ fn zero_run(a: &[u8], k: u8, n: u8) -> u8
     requires { k + n ≤ 8 }
     ensures { result ≡ zero_run a.now k n }
 {
-    let mut j: u8 = 0;
-    while j < n {
+    for j in 0..n {
         if group_at(a, k + j) != 0 {
             return j;
         }
-        j += 1;
     }
-    j
+    n
 }
 
 // The first of the longest runs of zero groups among the n groups from k on.
@@ -276,18 +224,18 @@ fn longest_run(a: &[u8], k: u8, n: u8) -> Run
     requires { k + n ≤ 8 }
     ensures { result ≡ longest a.now k n }
 {
-    if n == 0 {
-        return Run { start: k, size: 0 };
+    let mut best = Run { start: k, size: 0 };
+    for j in 0..n {
+        let size = zero_run(a, k + j, n - j);
+        if best.size < size {
+            best = Run { start: k + j, size };
+        }
     }
-    let size = zero_run(a, k, n);
-    let later = longest_run(a, k + 1, n - 1);
-    if later.size <= size {
-        return Run { start: k, size };
-    }
-    later
+    best
 }
 
 // Is the address IPv4-mapped?
+#[tactic(auto, unfolding(crate::specs::Address::is_mapped))]
 fn is_mapped(a: &[u8]) -> bool
     ensures { result ≡ is_mapped a.now }
 {
@@ -314,20 +262,19 @@ fn put_number(room: &mut [u8], at: usize, a: &[u8], four: bool, k: u8) -> usize
     put_hex(room, at, group_at(a, k) as u64)
 }
 
-// Puts the n numbers from k on at `at`, with separators between.
+// Puts the n numbers from k on at `at`, with separators between. (No text first: `end` lies in the room where `at` does not.)
 fn put_numbers(room: &mut [u8], at: usize, a: &[u8], four: bool, k: u8, n: u8) -> usize
     requires { k + n ≤ 16 }
     ensures { Puts room.old room.new at result (numbers_text a.now four k n) }
 {
-    if n == 0 {
-        return put_text(room, at, b"");
+    let mut end = put_text(room, at, b"");
+    for i in 0..n {
+        if i != 0 {
+            end = put_char(room, end, separator(four));
+        }
+        end = put_number(room, end, a, four, k + i);
     }
-    let end = put_number(room, at, a, four, k);
-    if n == 1 {
-        return end;
-    }
-    let next = put_char(room, end, separator(four));
-    put_numbers(room, next, a, four, k + 1, n - 1)
+    end
 }
 
 // Puts the address a as IPv6 at `at`, the run of zero groups as `::` where they are two or more.
@@ -348,7 +295,7 @@ fn put_six(room: &mut [u8], at: usize, a: &[u8], run: Run) -> usize
 pub fn put_address(room: &mut [u8], at: usize, bytes: &[u8]) -> usize
     ensures { Puts room.old room.new at result (address_text (bytes_at bytes.now 0 16)) }
 {
-    let a = sixteen_at(bytes, 0);
+    let a: [u8; 16] = array_at(bytes, 0);
     if is_mapped(&a) {
         return put_numbers(room, at, &a, true, 12, 4);
     }

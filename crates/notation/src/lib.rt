@@ -7,3 +7,4 @@ pub mod mac;
 pub mod number;
 pub mod pairs;
 pub mod pci;
+pub mod value;

@@ -1,24 +1,20 @@
 // MAC addresses as they are written: six pairs of hexadecimal digits with colons between.
 ghost use Rattle.std.specs.Prelude.{◌≡◌};
 ghost use Rattle.text.specs.Put.{Puts};
-ghost use Rattle.notation.specs.Mac.{read_mac, mac_answer, mac_text};
+ghost use Rattle.notation.specs.Mac.{read_mac, mac_text};
 
 use crate::pairs::{put_pairs, read_pairs};
 
-// What a text is read as: the six bytes, or not ok and zeros.
-#[derive(Clone, Copy)]
-pub struct MacRead {
-    pub ok: bool,
-    pub bytes: [u8; 6],
-}
-
 // The six bytes that s says.
-pub fn read_mac(s: &[u8]) -> MacRead
-    ensures { result ≡ mac_answer (read_mac s.now) }
+pub fn read_mac(s: &[u8]) -> Option<[u8; 6]>
+    ensures { result ≡ read_mac s.now }
 {
     let mut bytes = [0u8; 6];
-    let ok = read_pairs(s, &mut bytes);
-    MacRead { ok, bytes }
+    if read_pairs(s, &mut bytes) {
+        Some(bytes)
+    } else {
+        None
+    }
 }
 
 // Puts the text of the six bytes at `at`, a byte that is missing as 0; answers the place behind it.

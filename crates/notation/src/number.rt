@@ -1,97 +1,60 @@
 // Numbers as they are written: digits in a base of at most 16, read and put.
-ghost use Rattle.std.specs.Prelude.{◌≡◌, ◌+◌, ◌*◌, ◌≤◌};
-ghost use Rattle.std.proofs.Math.Option.{some};
+ghost use Rattle.std.specs.Prelude.{◌≡◌, ◌+◌, ◌≤◌};
 ghost use Rattle.text.specs.Put.{Puts};
-ghost use Rattle.notation.specs.Number.{hex_digit, below, digit, with_digit, numeral_up_to, number_up_to, hex_byte_at, answer, digit_byte, digits, padded};
+ghost use Rattle.notation.specs.Number.{hex_digit, below, digit, with_digit, numeral_up_to, number_up_to, hex_byte_at, digit_byte, digits, padded};
 
 use octets::read::{byte_at, part};
 use text::put::put_char;
 
-// What a text is read as: a number, or none.
-#[derive(Clone, Copy)]
-pub enum Number {
-    Value(u64),
-    Bad,
-}
-
 // The value of a hexadecimal digit.
-fn hex_digit(b: u8) -> Number
-    ensures { result ≡ answer (hex_digit b) }
+#[tactic(auto, unfolding(crate::specs::Number::hex_digit))]
+fn hex_digit(b: u8) -> Option<u64>
+    ensures { result ≡ hex_digit b }
 {
-    if (b'0' <= b) & (b <= b'9') {
-        return Number::Value((b - b'0') as u64);
+    match b {
+        b'0'..=b'9' => Some((b - b'0') as u64),
+        b'a'..=b'f' => Some((b - b'a') as u64 + 10),
+        b'A'..=b'F' => Some((b - b'A') as u64 + 10),
+        _ => None,
     }
-    if (b'a' <= b) & (b <= b'f') {
-        return Number::Value((b - b'a') as u64 + 10);
-    }
-    if (b'A' <= b) & (b <= b'F') {
-        return Number::Value((b - b'A') as u64 + 10);
-    }
-    Number::Bad
 }
 
 // The value of a digit in the base.
-pub(crate) fn digit_value(base: u8, b: u8) -> Number
-    ensures { result ≡ answer (digit base b) }
+#[tactic(auto, unfolding(crate::specs::Number::below, crate::specs::Number::digit))]
+pub(crate) fn digit_value(base: u8, b: u8) -> Option<u64>
+    ensures { result ≡ digit base b }
 {
-    let Number::Value(d) = hex_digit(b) else {
-        return Number::Bad;
-    };
-    if d < base as u64 {
-        return Number::Value(d);
-    }
-    Number::Bad
-}
-
-// n x base + d, where it is at most max. (The product is taken only where it fits.)
-fn shifted(base: u8, max: u64, n: u64, d: u64) -> Number
-    ensures { result ≡ answer (below (max + 1) (some (n * base + d))) }
-{
-    if max < d {
-        return Number::Bad;
-    }
-    if base == 0 {
-        return Number::Value(d);
-    }
-    if (max - d) / (base as u64) < n {
-        return Number::Bad;
-    }
-    Number::Value(n * base as u64 + d)
+    let d = hex_digit(b)?;
+    if d < base as u64 { Some(d) } else { None }
 }
 
 // n with the digit b behind it, where it is at most max.
-fn with_digit(base: u8, max: u64, n: u64, b: u8) -> Number
-    ensures { result ≡ answer (below (max + 1) (with_digit base n b)) }
+fn with_digit(base: u8, max: u64, n: u64, b: u8) -> Option<u64>
+    ensures { result ≡ below (max + 1) (with_digit base n b) }
 {
-    let Number::Value(d) = digit_value(base, b) else {
-        return Number::Bad;
-    };
-    shifted(base, max, n, d)
+    let d = digit_value(base, b)?;
+    let more = n.checked_mul(base as u64)?.checked_add(d)?;
+    if more <= max { Some(more) } else { None }
 }
 
 // The number that s is in digits of the base, where it is at most max. (A number only grows with its digits: once it passes
 // max, the answer is settled.)
-pub fn read_numeral(base: u8, max: u64, s: &[u8]) -> Number
-    ensures { result ≡ answer (numeral_up_to base max s.now) }
+pub fn read_numeral(base: u8, max: u64, s: &[u8]) -> Option<u64>
+    ensures { result ≡ numeral_up_to base max s.now }
 {
     if s.len() == 0 {
-        return Number::Bad;
+        return None;
     }
     let mut n: u64 = 0;
-    let mut i = 0;
-    while i < s.len() {
-        let Number::Value(more) = with_digit(base, max, n, s[i]) else {
-            return Number::Bad;
-        };
-        n = more;
-        i += 1;
+    for b in s {
+        n = with_digit(base, max, n, *b)?;
     }
-    Number::Value(n)
+    Some(n)
 }
 
 // The number that s is, in decimal digits, or in hexadecimal ones behind 0x, where it is at most max.
-pub fn read_number(max: u64, s: &[u8]) -> Number
-    ensures { result ≡ answer (number_up_to max s.now) }
+pub fn read_number(max: u64, s: &[u8]) -> Option<u64>
+    ensures { result ≡ number_up_to max s.now }
 {
     if (byte_at(s, 0) == b'0') & (byte_at(s, 1) == b'x') {
         return read_numeral(16, max, part(s, 2, s.len()));
@@ -101,11 +64,11 @@ pub fn read_number(max: u64, s: &[u8]) -> Number
 
 // The byte that the two hexadecimal digits at `at` are. (No slice ends at the last `usize`, so at + 1 cannot wrap below its
 // end.)
-pub fn read_hex_byte(s: &[u8], at: usize) -> Number
-    ensures { result ≡ answer (hex_byte_at s.now at) }
+pub fn read_hex_byte(s: &[u8], at: usize) -> Option<u64>
+    ensures { result ≡ hex_byte_at s.now at }
 {
     if s.len() <= at {
-        return Number::Bad;
+        return None;
     }
     let pair = [byte_at(s, at), byte_at(s, at + 1)];
     read_numeral(16, 255, &pair[..])

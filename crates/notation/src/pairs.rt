@@ -3,7 +3,7 @@ ghost use Rattle.std.specs.Prelude.{◌≡◌, true, ◌-◌, ◌≤◌, length}
 ghost use Rattle.text.specs.Put.{Puts};
 ghost use Rattle.notation.specs.Pairs.{pairs_form, read_pairs, is_read, read_into, pair_at, colon_pair, colon_pairs, pairs_text};
 
-use crate::number::{Number, put_hex_byte, read_hex_byte};
+use crate::number::{put_hex_byte, read_hex_byte};
 use octets::read::byte_at;
 use text::put::put_char;
 
@@ -17,12 +17,10 @@ fn pairs_form(n: usize, s: &[u8]) -> bool
     if s.len() / 3 + 1 != n {
         return false;
     }
-    let mut k: usize = 0;
-    while k < n - 1 {
+    for k in 0..n - 1 {
         if s[3 * k + 2] != b':' {
             return false;
         }
-        k += 1;
     }
     true
 }
@@ -34,12 +32,10 @@ fn is_pairs(n: usize, s: &[u8]) -> bool
     if !pairs_form(n, s) {
         return false;
     }
-    let mut k: usize = 0;
-    while k < n {
-        let Number::Value(_) = read_hex_byte(s, 3 * k) else {
+    for k in 0..n {
+        if read_hex_byte(s, 3 * k).is_none() {
             return false;
-        };
-        k += 1;
+        }
     }
     true
 }
@@ -48,13 +44,11 @@ fn is_pairs(n: usize, s: &[u8]) -> bool
 fn pair_at(s: &[u8], at: usize) -> u8
     ensures { result ≡ pair_at s.now at }
 {
-    match read_hex_byte(s, at) {
-        Number::Value(b) => b as u8,
-        Number::Bad => 0,
-    }
+    read_hex_byte(s, at).unwrap_or(0) as u8
 }
 
-// Reads as many pairs as bytes are lent. Where s is not so many pairs, the bytes stay as they were.
+// Reads as many pairs as bytes are lent. Where s is not so many pairs, the bytes stay as they were. (A bool beside lent bytes:
+// how many they are is settled at run time, as `pairs_value` has it, so no array can be answered.)
 pub fn read_pairs(s: &[u8], bytes: &mut [u8]) -> bool
     ensures { (result ≡ is_read (read_pairs (length bytes.old) s.now))
         × (bytes.new ≡ read_into bytes.old (read_pairs (length bytes.old) s.now)) }
@@ -62,10 +56,8 @@ pub fn read_pairs(s: &[u8], bytes: &mut [u8]) -> bool
     if !is_pairs(bytes.len(), s) {
         return false;
     }
-    let mut k: usize = 0;
-    while k < bytes.len() {
+    for k in 0..bytes.len() {
         bytes[k] = pair_at(s, 3 * k);
-        k += 1;
     }
     true
 }
@@ -84,10 +76,8 @@ fn put_colon_pairs(room: &mut [u8], at: usize, n: usize, bytes: &[u8]) -> usize
     ensures { Puts room.old room.new at result (colon_pairs bytes.now (n - 1)) }
 {
     let mut end = at;
-    let mut k: usize = 1;
-    while k < n {
+    for k in 1..n {
         end = put_colon_pair(room, end, byte_at(bytes, k));
-        k += 1;
     }
     end
 }

@@ -1,60 +1,42 @@
 // PCI addresses as they are written: bus, device and function, `00:03.1`.
 ghost use Rattle.std.specs.Prelude.{◌≡◌};
 ghost use Rattle.text.specs.Put.{Puts};
-ghost use Rattle.notation.specs.Number.{answer};
-ghost use Rattle.notation.specs.Pci.{pci_form, device_function, read_pci, pci_answer, function_text, device_text, pci_text};
+ghost use Rattle.notation.specs.Pci.{pci_form, device_function, read_pci, function_text, device_text, pci_text};
 
-use crate::number::{Number, digit_byte, digit_value, put_hex_byte, read_hex_byte};
+use crate::number::{digit_byte, digit_value, put_hex_byte, read_hex_byte};
 use octets::read::byte_at;
 use text::put::put_char;
 
-// What a text is read as: a PCI word, or none.
-#[derive(Clone, Copy)]
-pub enum PciRead {
-    Word(u16),
-    Bad,
-}
-
 // Whether s has seven bytes, with a colon behind the bus and a dot behind the device.
+#[tactic(auto, unfolding(crate::specs::Pci::pci_form))]
 fn pci_form(s: &[u8]) -> bool
     ensures { result ≡ pci_form s.now }
 {
-    if s.len() != 7 {
-        return false;
-    }
-    (s[2] == b':') & (s[5] == b'.')
+    matches!(s, [_, _, b':', _, _, b'.', _])
 }
 
 // The device and the function that s says, as device x 8 + function.
-fn read_device_function(s: &[u8]) -> Number
-    ensures { result ≡ answer (device_function s.now) }
+fn read_device_function(s: &[u8]) -> Option<u64>
+    ensures { result ≡ device_function s.now }
 {
-    let Number::Value(device) = read_hex_byte(s, 3) else {
-        return Number::Bad;
-    };
+    let device = read_hex_byte(s, 3)?;
     if 31 < device {
-        return Number::Bad;
+        return None;
     }
-    let Number::Value(function) = digit_value(8, byte_at(s, 6)) else {
-        return Number::Bad;
-    };
-    Number::Value(device << 3 | function)
+    let function = digit_value(8, byte_at(s, 6))?;
+    Some(device << 3 | function)
 }
 
 // The word that s says: bus x 256 + device x 8 + function.
-pub fn read_pci(s: &[u8]) -> PciRead
-    ensures { result ≡ pci_answer (read_pci s.now) }
+pub fn read_pci(s: &[u8]) -> Option<u16>
+    ensures { result ≡ read_pci s.now }
 {
     if !pci_form(s) {
-        return PciRead::Bad;
+        return None;
     }
-    let Number::Value(bus) = read_hex_byte(s, 0) else {
-        return PciRead::Bad;
-    };
-    let Number::Value(rest) = read_device_function(s) else {
-        return PciRead::Bad;
-    };
-    PciRead::Word((bus << 8 | rest) as u16)
+    let bus = read_hex_byte(s, 0)?;
+    let rest = read_device_function(s)?;
+    Some((bus << 8 | rest) as u16)
 }
 
 // Puts a dot and the function's digit at `at`; answers the place behind them.

@@ -6,7 +6,7 @@
 --     oem-notation, control-notation, control-place     the header's fields and Control's
 --     text-kind, text-entry                  only structures have strings, and which entries they are
 --     secret-string, secret-plain, secret-past     the secrets are those of the layout
---     names-past                             the names of a kind's fields
+--     names-past, flags-none                 the names of a kind's fields and flags
 --     digits-short, number-low, index-low    an Index is a byte, of three digits at most
 --     index-none, index-other, index-bad, index_read     what stands behind a kind's name
 --     found-no-kind, found-no-field, found-no-index, found-field, named-nothing, named-found     what a name names, as the code
@@ -16,11 +16,10 @@
 use mathlib.Core.Path.{◌≡◌, refl, sym, ap, ◌∙◌}
 use mathlib.Core.List.{List, [], ◌∷◌}
 use mathlib.Core.Bool.{Bool, true, false, cond, not, ◌&&◌, and-false}
-use mathlib.Core.Option.{Option, none, some}
 use Prim.Native.Char.{code}
 use Prim.Native.Nat.{ℕ, zero, suc, ◌+◌, ◌-◌, ◌≤◌, ◌<◌}
 use native.Mathlib.Omega.{arith}
-use borrow.Author.Tests.{lt-ltb, le-ltb, ltb-true, ltb-false, eq-eqb, ne_eqb}
+use borrow.Author.Tests.{lt-ltb, le-ltb, ltb-false, eq-eqb, ne_eqb}
 use lib.ListN.{length, get_or, take, drop, length-drop, get_or-eq_default}
 use lib.Seq.{take_all}
 use lib.Dec.{eqb, ltb}
@@ -29,8 +28,8 @@ use Rattle.octets.specs.Octets.{part}
 use Rattle.octets.proofs.CountingLaws.{any_none, tabulate-equal}
 use Rattle.text.specs.Split.{before, index_of, same}
 use Rattle.text.specs.Words.{word_number}
-use Rattle.notation.specs.Number.{below, number, number_up_to, answer, digits}
-use Rattle.notation.specs.declared.number.Number.TheVariants.{Value, Bad}
+use Rattle.notation.specs.Number.{number, number_up_to, digits}
+use Rattle.notation.proofs.NumberLaws.{below-some}
 use Rattle.ibft_layout.specs.Layout.{field, string, may_share, first_entry}
 use Rattle.record_text.specs.Fields.{
   Group,
@@ -58,8 +57,8 @@ use Rattle.record_text.specs.Fields.{
 }
 use Rattle.record_text.specs.Computing.{computing}
 use Rattle.record_text.specs.declared.fields.Notation.TheVariants.{Oem, Mode}
-use Rattle.record_text.specs.declared.fields.Found.{Found}
-use Rattle.record_text.specs.declared.fields.Found.TheVariants.{Named, Nothing}
+use Rattle.std.specs.Prelude.{Option, None, Some}
+use Rattle.record_text.specs.declared.fields.FieldName.{FieldName}
 
 pub row {ℓ} : {A : Type ℓ} (f : ℕ → A) (m n : ℕ) (r : A) → r ≡ f m → n ≡ m → r ≡ f n
 row f m n r e k = e ∙ ap f (sym k)
@@ -187,14 +186,21 @@ no-string kind n h = omega (arith, strings-fit kind)
 pub secret-past : (kind n : ℕ) → field_count kind ≤ n → false ≡ is_secret kind n
 unfolding is_secret
 secret-past kind n h =
-    let none : get_or (group_of kind).strings (n - plain_count kind) (string 0 0 false)
+    let nothing : get_or (group_of kind).strings (n - plain_count kind) (string 0 0 false)
     ≡ string 0 0 false = get_or-eq_default (group_of kind).strings _ (no-string kind n h) in
-    rw none (sym (and-false (not (ltb n (plain_count kind)))))
+    rw nothing (sym (and-false (not (ltb n (plain_count kind)))))
 
 -- ---- names
 
 pub names-past : (kind : ℕ) → kind_count ≤ kind → (group_of kind).names ≡ (group_of 0).names
 names-past kind h = ap (λ (x : Group). x.names) (group-past kind h)
+
+-- kinds that are no structure's have no flags
+pub flags-none : (kind : ℕ) → (first_structure ≤ kind → kind_count ≤ kind) → [] ≡ (group_of kind).flags
+unfolding group_of
+flags-none zero past = refl
+flags-none (suc zero) past = refl
+flags-none (suc (suc k)) past = sym (ap (λ (x : Group). x.flags) (get_or-eq_default groups oem (past (omega arith))))
 
 -- an Index has three digits at most
 short-digits : any 256 (λ (n : ℕ). ltb 3 (length (digits 10 n))) ≡ false
@@ -206,95 +212,61 @@ digits-short n h = ltb-false 3 (length (digits 10 n)) (any_none 256 (λ (n : ℕ
 
 -- what stands behind a kind's name
 module _ (kind : ℕ) (text : List ℕ) where
-  pub index-none : kind < first_indexed → length text ≡ 0 → Value 0 ≡ answer (index_in kind text)
-  unfolding index_in answer
+  pub index-none : kind < first_indexed → length text ≡ 0 → Some 0 ≡ index_in kind text
+  unfolding index_in
   index-none h e = rw (lt-ltb kind first_indexed h, eq-eqb (length text) 0 e)
 
-  pub index-other : kind < first_indexed → (length text ≡ 0 → ⊥) → Bad ≡ answer (index_in kind text)
-  unfolding index_in answer
+  pub index-other : kind < first_indexed → (length text ≡ 0 → ⊥) → None ≡ index_in kind text
+  unfolding index_in
   index-other h e = rw (lt-ltb kind first_indexed h, ne_eqb (length text) 0 e)
 
   module _ (h : first_indexed ≤ kind) where
-    index_is : (o : Option ℕ) → number_up_to 255 text ≡ o → index_in kind text ≡ told_index text o
+    index_is : (o : Option ℕ) → number_up_to 255 text ≡ o → told_index text o ≡ index_in kind text
     unfolding index_in
     index_is o e = rw (le-ltb kind first_indexed h, e)
 
-    pub index-bad : answer (number_up_to 255 text) ≡ Bad → Bad ≡ answer (index_in kind text)
-    unfolding answer
-    index-bad e = go (number_up_to 255 text) refl e
-      where
-        go : (o : Option ℕ) → number_up_to 255 text ≡ o → answer o ≡ Bad → Bad ≡ answer (index_in kind text)
-        go none is e = rw (index_is none is)
-        go (some n) is e = absurd (let z : ◌≡◌ {A = ℕ} 0 1 = cc in omega arith)
+    pub index-bad : number_up_to 255 text ≡ None → None ≡ index_in kind text
+    index-bad e = index_is None e
 
     -- a number that is read, told so or not
-    pub index_read : (n : ℕ) (b : Bool) → answer (number_up_to 255 text) ≡ Value n → b ≡ same (digits 10 n) text
-        → cond b (Value n) Bad ≡ answer (index_in kind text)
-    unfolding answer
-    index_read n b e is = go (number_up_to 255 text) refl e
-      where
-        shown : (m : ℕ) (b : Bool) → b ≡ same (digits 10 m) text → cond b (Value m) Bad ≡ answer (told_index text (some m))
-        shown m true k = rw (← k)
-        shown m false k = rw (← k)
-
-        go : (o : Option ℕ) → number_up_to 255 text ≡ o → answer o ≡ Value n → cond b (Value n) Bad ≡ answer (index_in kind text)
-        go none u e = absurd (let z : ◌≡◌ {A = ℕ} 0 1 = cc in omega arith)
-        go (some m) u e = let same_number : m ≡ n = cc in rw (index_is (some m) u, same_number) (shown n b is)
+    pub index_read : (n : ℕ) (b : Bool) → number_up_to 255 text ≡ Some n → b ≡ same (digits 10 n) text → cond b (Some n) None ≡ index_in kind text
+    index_read n b e is = rw is (index_is (Some n) e)
 
 -- an Index that is read is a byte
-below-low : (limit : ℕ) (o : Option ℕ) (n : ℕ) → below limit o ≡ some n → n < limit
-unfolding below
-below-low limit none n e = absurd (let z : ◌≡◌ {A = ℕ} 0 1 = cc in omega arith)
-below-low limit (some m) n e = go (ltb m limit) refl e
-  where
-    go : (b : Bool) → ltb m limit ≡ b → cond b (some m) none ≡ some n → n < limit
-    go true k e = let same_number : m ≡ n = cc in omega (arith, ltb-true m limit k)
-    go false k e = absurd (let z : ◌≡◌ {A = ℕ} 0 1 = cc in omega arith)
-
-pub number-low : (text : List ℕ) (n : ℕ) → answer (number_up_to 255 text) ≡ Value n → n < 256
-unfolding answer
-number-low text n e = go (number_up_to 255 text) refl e
-  where
-    go : (o : Option ℕ) → number_up_to 255 text ≡ o → answer o ≡ Value n → n < 256
-    go none u e = absurd (let z : ◌≡◌ {A = ℕ} 0 1 = cc in omega arith)
-    go (some m) u e = let same_number : m ≡ n = cc in omega (arith, below-low 256 (number text) m u)
+pub number-low : (text : List ℕ) (n : ℕ) → number_up_to 255 text ≡ Some n → n < 256
+number-low text n e = (below-some 256 n (number text) e).1
 
 -- .. where it is told, too
-pub index-low : (kind : ℕ) (text : List ℕ) (n : ℕ) → answer (index_in kind text) ≡ Value n → n < 256
-unfolding answer index_in
-index-low kind text n e = go (ltb kind first_indexed) refl e
+pub index-low : (kind : ℕ) (text : List ℕ) (n : ℕ) → index_in kind text ≡ Some n → n < 256
+unfolding index_in
+index-low kind text n e = go (ltb kind first_indexed) e
   where
-    told-low : (o : Option ℕ) → ((m : ℕ) → o ≡ some m → m < 256) → answer (told_index text o) ≡ Value n → n < 256
-    told-low none q e = absurd (let z : ◌≡◌ {A = ℕ} 0 1 = cc in omega arith)
-    told-low (some m) q e = shown (same (digits 10 m) text) e
-      where
-        shown : (b : Bool) → answer (cond b (some m) none) ≡ Value n → n < 256
-        shown true e = let same_number : m ≡ n = cc in omega (arith, q m refl)
-        shown false e = absurd (let z : ◌≡◌ {A = ℕ} 0 1 = cc in omega arith)
+    shown : (b : Bool) (m : ℕ) → m < 256 → cond b (Some m) None ≡ Some n → n < 256
+    shown true m q e = let same_number : m ≡ n = cc in omega (arith, q)
+    shown false m q e = absurd (let z : ◌≡◌ {A = ℕ} 0 1 = cc in omega arith)
 
-    empty-low : (b : Bool) → answer (cond b (some 0) none) ≡ Value n → n < 256
-    empty-low true e = let same_number : 0 ≡ n = cc in omega arith
-    empty-low false e = absurd (let z : ◌≡◌ {A = ℕ} 0 1 = cc in omega arith)
+    told-low : (o : Option ℕ) → ((m : ℕ) → o ≡ Some m → m < 256) → told_index text o ≡ Some n → n < 256
+    told-low None q e = absurd (let z : ◌≡◌ {A = ℕ} 0 1 = cc in omega arith)
+    told-low (Some m) q e = shown (same (digits 10 m) text) m (q m refl) e
 
-    go : (b : Bool) → ltb kind first_indexed ≡ b
-        → answer (cond b (cond (eqb (length text) 0) (some 0) none) (told_index text (number_up_to 255 text))) ≡ Value n → n < 256
-    go true k e = empty-low (eqb (length text) 0) e
-    go false k e = told-low (number_up_to 255 text) (λ m u. below-low 256 (number text) m u) e
+    go : (b : Bool) → cond b (cond (eqb (length text) 0) (Some 0) None) (told_index text (number_up_to 255 text)) ≡ Some n → n < 256
+    go true e = shown (eqb (length text) 0) 0 (omega arith) e
+    go false e = told-low (number_up_to 255 text) (number-low text) e
 
 -- ---- what a name names, as the code finds it
 
 module _ (group own : List ℕ) (letters : ℕ) (split : letters ≡ before is_digit group) (kind : ℕ) (is : kind ≡ word_number group_names (take letters group)) where
-  none_found : (n : ℕ) (o : Option ℕ) → (ltb kind kind_count && ltb n (field_count kind)) ≡ false → Nothing ≡ found kind n o
+  none_found : (n : ℕ) (o : Option ℕ) → (ltb kind kind_count && ltb n (field_count kind)) ≡ false → None ≡ found kind n o
   unfolding found
-  none_found n none e = refl
-  none_found n (some i) e = rw e
+  none_found n None e = refl
+  none_found n (Some i) e = rw e
 
-  pub found-no-kind : kind_count ≤ kind → Nothing ≡ found_in group own
+  pub found-no-kind : kind_count ≤ kind → None ≡ found_in group own
   unfolding found_in
   found-no-kind h = rw (← split, ← is) (none_found (word_number (group_of kind).names own) (index_in kind (drop letters group)) (rw (le-ltb kind kind_count h)))
 
   module _ (n : ℕ) (number : n ≡ word_number (group_of kind).names own) where
-    pub found-no-field : field_count kind ≤ n → Nothing ≡ found_in group own
+    pub found-no-field : field_count kind ≤ n → None ≡ found_in group own
     unfolding found_in
     found-no-field h =
         rw (← split, ← is, ← number)
@@ -307,32 +279,23 @@ module _ (group own : List ℕ) (letters : ℕ) (split : letters ≡ before is_d
           let all : behind ≡ drop letters group = rest ∙ take_all (length group) (drop letters group) (omega (arith, length-drop letters group)) in
           rw (← split, ← is, ← number, ← all, e)
 
-      pub found-no-index : answer (index_in kind behind) ≡ Bad → Nothing ≡ found_in group own
-      unfolding answer found
-      found-no-index e = go (index_in kind behind) refl e
-        where
-          go : (o : Option ℕ) → index_in kind behind ≡ o → answer o ≡ Bad → Nothing ≡ found_in group own
-          go none u e = found-is none u
-          go (some i) u e = absurd (let z : ◌≡◌ {A = ℕ} 0 1 = cc in omega arith)
+      pub found-no-index : index_in kind behind ≡ None → None ≡ found_in group own
+      unfolding found
+      found-no-index e = found-is None e
 
-      pub found-field : (i : ℕ) → answer (index_in kind behind) ≡ Value i → Named (record { kind = kind; index = i; field = n }) ≡ found_in group own
-      unfolding answer found
-      found-field i e = go (index_in kind behind) refl e
-        where
-          go : (o : Option ℕ) → index_in kind behind ≡ o → answer o ≡ Value i → Named (record { kind = kind; index = i; field = n }) ≡ found_in group own
-          go none u e = absurd (let z : ◌≡◌ {A = ℕ} 0 1 = cc in omega arith)
-          go (some j) u e =
-              let same_index : j ≡ i = cc in
-              let whole : found kind n (some j) ≡ Named (record { kind = kind; index = j; field = n }) = rw
-              (lt-ltb kind kind_count low, lt-ltb n (field_count kind) there) in
-              rw (← same_index) (sym whole ∙ found-is (some j) u)
+      pub found-field : (i : ℕ) → index_in kind behind ≡ Some i → Some (record { kind = kind; index = i; field = n }) ≡ found_in group own
+      unfolding found
+      found-field i e =
+          let whole : found kind n (Some i) ≡ Some (record { kind = kind; index = i; field = n }) = rw
+          (lt-ltb kind kind_count low, lt-ltb n (field_count kind) there) in
+          sym whole ∙ found-is (Some i) e
 
 module _ (name : List ℕ) (dot : ℕ) (first : dot ≡ index_of (code ".") name) where
-  pub named-nothing : dot + 1 ≡ length name → Nothing ≡ field_named name
+  pub named-nothing : dot + 1 ≡ length name → None ≡ field_named name
   unfolding field_named
   named-nothing e = rw (← first, eq-eqb (dot + 1) (length name) e)
 
-  pub named-found : (dot + 1 ≡ length name → ⊥) → (rest : List ℕ) (r : Found) → rest ≡ part name (dot + 1) (length name)
+  pub named-found : (dot + 1 ≡ length name → ⊥) → (rest : List ℕ) (r : Option FieldName) → rest ≡ part name (dot + 1) (length name)
       → r ≡ found_in (take dot name) rest → r ≡ field_named name
   unfolding field_named part
   named-found more rest r behind e =

@@ -6,10 +6,10 @@
 --     string-field                                               a string
 --     absent-field                                               a field of a structure that is absent
 -- Assumes nothing.
+use Rattle.std.specs.Prelude.{None, Some, option_map}
 use mathlib.Core.Path.{◌≡◌, refl, ap, ◌∙◌}
 use mathlib.Core.Bool.{Bool, true, false, cond, ◌||◌}
 use mathlib.Core.List.{List}
-use mathlib.Core.Option.{none, some, map}
 use Prim.Native.Nat.{ℕ, zero, suc, ◌+◌, ◌-◌, ◌≤◌, ◌<◌}
 use native.Mathlib.Decide.{dec_lt}
 use native.Mathlib.Omega.{arith}
@@ -22,7 +22,7 @@ use Rattle.ibft_layout.specs.Layout.{kind_of, flags_at, slot_count, entry_count,
 use Rattle.ibft_table.specs.Table.{starts_of, index_in, holds_in, start_of, present, size_of, offset_of, holds_entry}
 use Rattle.ibft_table.specs.Check.{check_of}
 use Rattle.ibft_table.specs.Record.{listed, shown_if, body_size, content_in, content_of, record_of}
-use Rattle.table_header.specs.declared.verdict.Verdict.TheVariants.{Accepted}
+use Rattle.table_header.specs.Verdict.{Accepted}
 use Rattle.ibft_table_laws.proofs.LayoutLaws.{slot-entry, slot-entry-owner}
 use Rattle.ibft_table_laws.proofs.RecordLaws.{structure-listed, index_listed, entry_listed}
 use Rattle.ibft_table_laws.proofs.TableLaws.{length-least, length-le, slot-end-le}
@@ -58,18 +58,18 @@ shown-present false x = refl
 
 module _ (t : List ℕ) where
   module _ (k : ℕ) (h : k < slot_count) where
-    pub structure-held : get_or (record_of t).structures k none ≡ shown_if (present t k) (part t (start_of t k + 5) (body_size (kind_of k)))
+    pub structure-held : get_or (record_of t).structures k None ≡ shown_if (present t k) (part t (start_of t k + 5) (body_size (kind_of k)))
     unfolding record_of content_of content_in
     structure-held = structure-listed (content_of t) k h
 
-    pub present-held : is_present (get_or (record_of t).structures k none) ≡ present t k
+    pub present-held : is_present (get_or (record_of t).structures k None) ≡ present t k
     present-held = ap is_present structure-held ∙ shown-present (present t k) _
 
     pub index-held : get_or (record_of t).indices k 0 ≡ index_in (starts_of t) t k
     unfolding record_of content_of content_in
     index-held = index_listed (content_of t) k h
 
-  pub entry-held : (n : ℕ) → n < entry_count → get_or (record_of t).entries n none ≡ shown_if (holds_entry t n) (part t (offset_of t n) (size_of t n))
+  pub entry-held : (n : ℕ) → n < entry_count → get_or (record_of t).entries n None ≡ shown_if (holds_entry t n) (part t (offset_of t n) (size_of t n))
   unfolding record_of content_of content_in
   entry-held n h = entry_listed (content_of t) n h
 
@@ -85,7 +85,7 @@ module _ (t : List ℕ) where
     -- one that is no string
     module _ (n : ℕ) (plain : n < plain_count (kind_in k)) where
       plain-is : record_field (record_of t) (first_structure + k) n
-          ≡ map (within (field_of (kind_in k) n)) (shown_if (present t k) (part t (start_of t k + 5) (body_size (kind_of k))))
+          ≡ option_map (within (field_of (kind_in k) n)) (shown_if (present t k) (part t (start_of t k + 5) (body_size (kind_of k))))
       unfolding structure_field
       plain-is =
           let fits = kind-fits k h in
@@ -94,7 +94,7 @@ module _ (t : List ℕ) where
           structure-field n ∙ rw (text, structure-held k h)
 
       pub plain-some : present t k ≡ true
-          → record_field (record_of t) (first_structure + k) n ≡ some (part t (start_of t k + (field_of (kind_in k) n).at) (field_of (kind_in k) n).width)
+          → record_field (record_of t) (first_structure + k) n ≡ Some (part t (start_of t k + (field_of (kind_in k) n).at) (field_of (kind_in k) n).width)
       plain-some on =
           let fits = field_fits k n h (omega (arith, (kind-fits k h).fields)) in
           let at : ℕ = (field_of (kind_in k) n).at in
@@ -103,7 +103,7 @@ module _ (t : List ℕ) where
           let inside : at - flags_at + size ≤ body_size (kind_of k) = omega (arith, fits.from, fits.plain plain) in
           plain-is ∙ rw (on, part-within t (start_of t k + 5) (body_size (kind_of k)) (at - flags_at) size inside, place)
 
-      pub plain-none : present t k ≡ false → record_field (record_of t) (first_structure + k) n ≡ none
+      pub plain-none : present t k ≡ false → record_field (record_of t) (first_structure + k) n ≡ None
       plain-none off = plain-is ∙ rw off
 
     pub string-field : (m : ℕ) → m < strings_in k → record_field (record_of t) (first_structure + k) (plain_count (kind_in k) + m)
@@ -117,7 +117,7 @@ module _ (t : List ℕ) where
         let own : n - plain_count (kind_in k) ≡ m = omega arith in
         structure-field n ∙ rw (text, own, entry-held (first_entry k + m) (slot-entry k m h l))
 
-    pub absent-field : (n : ℕ) → n < field_count (kind_in k) → present t k ≡ false → record_field (record_of t) (first_structure + k) n ≡ none
+    pub absent-field : (n : ℕ) → n < field_count (kind_in k) → present t k ≡ false → record_field (record_of t) (first_structure + k) n ≡ None
     unfolding holds_in
     absent-field n l off =
         elim (dec_lt n (plain_count (kind_in k))) [
@@ -134,7 +134,7 @@ module _ (t : List ℕ) where
 module _ (t : List ℕ) (ok : check_of t ≡ Accepted) where
   abbrev Stands : ℕ → ℕ → Type 0
   Stands g n =
-      (record_field (record_of t) g n ≡ some (part t (source t g + (field_of (kind_number g) n).at) (field_of (kind_number g) n).width))
+      (record_field (record_of t) g n ≡ Some (part t (source t g + (field_of (kind_number g) n).at) (field_of (kind_number g) n).width))
       × (source t g + ((field_of (kind_number g) n).at + (field_of (kind_number g) n).width) ≤ length t)
 
   header-stands : (n : ℕ) → n < plain_count 0 → Stands 0 n
@@ -147,7 +147,7 @@ module _ (t : List ℕ) (ok : check_of t ≡ Accepted) where
   unfolding record_field record_of listed content_of content_in source kind_number plain_count field_count field_of place_in group_of bytes_past
   control-stands zero h =
       let long : 54 ≤ length t = omega (arith, length-least t ok, length-le t ok) in
-      (ap some (bytes-part t 53 1 long), long)
+      (ap Some (bytes-part t 53 1 long), long)
   control-stands (suc n) h = absurd (omega arith)
 
   structure-stands : (k n : ℕ) → k < slot_count → present t k ≡ true → n < plain_count (kind_in k) → Stands (first_structure + k) n
@@ -167,7 +167,7 @@ module _ (t : List ℕ) (ok : check_of t ≡ Accepted) where
       rw z (structure-stands k n (omega arith) there plain)
 
   module _ (g n : ℕ) (h : g < group_count) (on : holds_group t g ≡ true) (l : n < plain_count (kind_number g)) where
-    pub plain-field : record_field (record_of t) g n ≡ some (part t (source t g + (field_of (kind_number g) n).at) (field_of (kind_number g) n).width)
+    pub plain-field : record_field (record_of t) g n ≡ Some (part t (source t g + (field_of (kind_number g) n).at) (field_of (kind_number g) n).width)
     plain-field = (field-stands g n h on l).0
 
     pub plain-inside : source t g + ((field_of (kind_number g) n).at + (field_of (kind_number g) n).width) ≤ length t

@@ -6,10 +6,10 @@
 --     gather-more                                            one line more
 --     text-accepted, text-refused                            the text of a table
 -- Assumes nothing.
+use Rattle.std.specs.Prelude.{Option, None, Some}
 use mathlib.Core.Path.{◌≡◌, sym, ap, ◌∙◌}
 use mathlib.Core.Bool.{Bool, true, false, not, ◌&&◌}
 use mathlib.Core.List.{List, [], ◌∷◌, ◌++◌}
-use mathlib.Core.Option.{Option, none, some}
 use Prim.Native.Nat.{ℕ, ◌+◌, ◌-◌, ◌≤◌, ◌<◌}
 use native.Mathlib.Numerals.{add-one}
 use native.Mathlib.Omega.{arith}
@@ -23,9 +23,8 @@ use Rattle.ibft_table.specs.Table.{starts_of, start_in, present_in, index_in, fi
 use Rattle.ibft_table.specs.Check.{check_of}
 use Rattle.ibft_table.specs.Record.{shown_if, listed, content_in, content_of, record_of}
 use Rattle.ibft_layout.specs.declared.shape.Shape.{Shape}
-use Rattle.table_header.specs.declared.verdict.Verdict.{Verdict}
+use Rattle.table_header.specs.Verdict.{Verdict, Accepted, Refused}
 use Rattle.table_header.specs.declared.verdict.Refusal.{Refusal}
-use Rattle.table_header.specs.declared.verdict.Verdict.TheVariants.{Accepted, Refused}
 use Rattle.record_text.specs.Fields.{first_structure, is_secret, plain_count, field_count, field_of}
 use Rattle.record_text.specs.Enter.{group_count}
 use Rattle.record_text.specs.Tell.{kind_number, index_held, record_field, is_told, line_with, hidden_line, line_of, record_text, if_accepted, table_text}
@@ -36,36 +35,36 @@ use Rattle.record_text.proofs.HeldLaws.{index-held, string-field, plain-some, pl
 -- ---- a line
 
 module _ (hide : Bool) (kind index n : ℕ) where
-  pub line-missing : (o : Option (List ℕ)) → none ≡ o → [] ≡ line_of hide kind index n o
+  pub line-missing : (o : Option (List ℕ)) → None ≡ o → [] ≡ line_of hide kind index n o
   unfolding line_of
   line-missing o e = rw (← e)
 
   module _ (bytes : List ℕ) (s : Bool) (secret : s ≡ is_secret kind n) where
-    pub line-hidden : (hide && s) ≡ true → hidden_line kind index n ≡ line_of hide kind index n (some bytes)
+    pub line-hidden : (hide && s) ≡ true → hidden_line kind index n ≡ line_of hide kind index n (Some bytes)
     unfolding line_of
     line-hidden h = rw (← secret, h)
 
     module _ (shown : (hide && s) ≡ false) (t : Bool) (told : t ≡ is_told kind n bytes) where
-      pub line-untold : t ≡ false → [] ≡ line_of hide kind index n (some bytes)
+      pub line-untold : t ≡ false → [] ≡ line_of hide kind index n (Some bytes)
       unfolding line_of
       line-untold h = rw (← secret, shown, ← told, h)
 
-      pub line-told : t ≡ true → line_with kind index n bytes ≡ line_of hide kind index n (some bytes)
+      pub line-told : t ≡ true → line_with kind index n bytes ≡ line_of hide kind index n (Some bytes)
       unfolding line_of
       line-told h = rw (← secret, shown, ← told, h)
 
 -- ---- the bytes of a field
 
 module _ (t : List ℕ) (n : ℕ) where
-  pub table-id-field : n ≡ 1 → (bytes : List ℕ) → bytes ≡ part t 16 8 → some bytes ≡ record_field (record_of t) 0 n
+  pub table-id-field : n ≡ 1 → (bytes : List ℕ) → bytes ≡ part t 16 8 → Some bytes ≡ record_field (record_of t) 0 n
   unfolding record_field record_of listed content_of content_in
-  table-id-field h bytes e = rw (eq-eqb n 1 h) (ap some e)
+  table-id-field h bytes e = rw (eq-eqb n 1 h) (ap Some e)
 
-  pub id-field : (n ≡ 1 → ⊥) → (bytes : List ℕ) → bytes ≡ part t 10 6 → some bytes ≡ record_field (record_of t) 0 n
+  pub id-field : (n ≡ 1 → ⊥) → (bytes : List ℕ) → bytes ≡ part t 10 6 → Some bytes ≡ record_field (record_of t) 0 n
   unfolding record_field record_of listed content_of content_in
-  id-field h bytes e = rw (ne_eqb n 1 h) (ap some e)
+  id-field h bytes e = rw (ne_eqb n 1 h) (ap Some e)
 
-  pub mode-field : (b : ℕ) → b ≡ byte t 53 → some (b ∷ []) ≡ record_field (record_of t) 1 n
+  pub mode-field : (b : ℕ) → b ≡ byte t 53 → Some (b ∷ []) ≡ record_field (record_of t) 1 n
   unfolding record_field record_of listed content_of content_in
   mode-field b e = rw e
 
@@ -80,36 +79,36 @@ module _ (t starts : List ℕ) (is : starts ≡ starts_of t) (k : ℕ) (h : k < 
         rw (is, number) (sym (string-field t k h (n - plain_count kind) (omega (arith, fits.fields, few)))
         ∙ ap (record_field (record_of t) (first_structure + k)) own)
 
-    pub string-gone : holds_in starts t entry ≡ false → none ≡ record_field (record_of t) (first_structure + k) n
+    pub string-gone : holds_in starts t entry ≡ false → None ≡ record_field (record_of t) (first_structure + k) n
     string-gone off = rw off at string-is
 
     pub string-there : holds_in starts t entry ≡ true → (words size offset : ℕ) (bytes : List ℕ) → words ≡ field_in starts entry → size ≡ word16 t words
-        → offset ≡ word16 t (words + 2) → bytes ≡ part t offset size → some bytes ≡ record_field (record_of t) (first_structure + k) n
+        → offset ≡ word16 t (words + 2) → bytes ≡ part t offset size → Some bytes ≡ record_field (record_of t) (first_structure + k) n
     unfolding size_in offset_in
     string-there on words size offset bytes at es eo e =
-        let shown : some (part t (word16 t (field_in starts entry + 2)) (word16 t (field_in starts entry)))
+        let shown : Some (part t (word16 t (field_in starts entry + 2)) (word16 t (field_in starts entry)))
         ≡ record_field (record_of t) (first_structure + k) n = rw on at string-is in
-        ap some (e ∙ rw (eo, es, at)) ∙ shown
+        ap Some (e ∙ rw (eo, es, at)) ∙ shown
 
   -- any other field, by the structure's start
   module _ (plain : n < plain_count kind) (start : ℕ) (from : start ≡ start_in starts k) where
     plain-kind : n < plain_count (kind_of k).id
     plain-kind = rw (← of) plain
 
-    pub plain-gone : start ≡ 0 → none ≡ record_field (record_of t) (first_structure + k) n
+    pub plain-gone : start ≡ 0 → None ≡ record_field (record_of t) (first_structure + k) n
     unfolding present_in
     plain-gone off =
         let zero-start : start_in (starts_of t) k ≡ 0 = sym (ap (λ (s : List ℕ). start_in s k) is) ∙ sym from ∙ off in
         sym (plain-none t k h n plain-kind (rw zero-start))
 
     pub plain-there : (start ≡ 0 → ⊥) → (x : FieldLayout) → x ≡ field_of kind n → (bytes : List ℕ) → bytes ≡ part t (start + x.at) x.width
-        → some bytes ≡ record_field (record_of t) (first_structure + k) n
+        → Some bytes ≡ record_field (record_of t) (first_structure + k) n
     unfolding present_in
     plain-there on x layout bytes e =
         let first : start ≡ start_in (starts_of t) k = from ∙ ap (λ (s : List ℕ). start_in s k) is in
         let there : not (eqb (start_in (starts_of t) k) 0) ≡ true = rw (← first, ne_eqb start 0 on) in
         let shape : x ≡ field_of (kind_of k).id n = layout ∙ ap (λ (q : ℕ). field_of q n) of in
-        ap some (e ∙ rw (first, shape)) ∙ sym (plain-some t k h n plain-kind there)
+        ap Some (e ∙ rw (first, shape)) ∙ sym (plain-some t k h n plain-kind there)
 
 -- ---- groups
 

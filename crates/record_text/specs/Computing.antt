@@ -1,6 +1,6 @@
 -- One name that opens every definition of this crate and of those below, for theorems that compute. It says nothing.
+use Rattle.octets.specs.Options.{bind}
 use Rattle.std.specs.Prelude.{ℕ}
-use Rattle.std.proofs.Math.Option.{bind}
 use Rattle.text.specs.Computing.{computing as of-text}
 use Rattle.ibft_build_rules.specs.Computing.{computing as of-ibft-build-rules}
 use Rattle.notation.specs.Number.{hex_digit, below, digit, value_from, numeral, number, digit_byte, digits_within, digits, padded}
@@ -32,7 +32,8 @@ use Rattle.notation.specs.Address.{
 }
 use Rattle.record_text.specs.Fields.{is_text, is_oem, is_always, group_of, field_count, plain_count, notation_in, place_in, is_secret, field_of}
 use Rattle.record_text.specs.Fields.{index_text, name_of, index_in, is_digit, found, found_in, field_named}
-use Rattle.record_text.specs.Value.{word_byte, number_bytes, value_bytes, value_read, value_text}
+use Rattle.notation.specs.Value.{is_width, number_bytes, value_read}
+use Rattle.record_text.specs.Value.{word_byte, value_bytes, value_text}
 use Rattle.record_text.specs.Enter.{says_nothing, line_found, is_marked, marks_below, noted, lines_noted, none_noted, slot_of, group_number}
 use Rattle.record_text.specs.Enter.{counted, has_image, with_port, with_usual, usual_to, blank, blank_draft, given_at, value_place, entry_of}
 use Rattle.record_text.specs.Enter.{seated, present, with_value, with_string, reason_of, plain_step, string_step, value_step, has_slot}
@@ -46,7 +47,7 @@ unfolding of-text of-ibft-build-rules bind hex_digit below digit value_from nume
     pci_form device_function read_pci pci_text short bytes_of_pieces decimal four_bytes group last_group groups side gap_at with_gap
     without_gap read_six read_address zero_run longest groups_text four_text six_text is_mapped address_text is_text is_oem is_always
     group_of field_count plain_count notation_in place_in is_secret field_of index_text name_of index_in is_digit found found_in
-    field_named word_byte number_bytes value_bytes value_read value_text says_nothing line_found is_marked marks_below noted
+    field_named word_byte is_width number_bytes value_bytes value_read value_text says_nothing line_found is_marked marks_below noted
     lines_noted none_noted slot_of group_number counted has_image with_port with_usual usual_to blank blank_draft given_at value_place
     entry_of seated present with_value with_string reason_of plain_step string_step value_step has_slot field_step line_step lines_from
     entered_from kind_number index_held structure_field record_field is_told line_with hidden_line line_of group_text record_text

@@ -6,10 +6,9 @@ use Rattle.octets.specs.Octets.{zeros, part}
 use Rattle.text.specs.Put.{ascii}
 use Rattle.text.specs.Split.{join}
 use Rattle.ibft_build_rules.specs.RecordRange.{largest_size, named_image}
-use Rattle.record_text.specs.Enter.{no_field, no_such_field, given_before, unreadable, too_long, no_room, too_many, answer_of, entered_from}
+use Rattle.record_text.specs.Enter.{no_field, no_such_field, given_before, unreadable, too_long, no_room, too_many, Answer, answer_of, entered_from}
 use Rattle.record_text.specs.Computing.{computing}
 use Rattle.record_text.specs.declared.fields.FieldName.{FieldName}
-use Rattle.record_text.specs.declared.enter.Entered.{Entered}
 
 -- lines with a line feed between each two
 text : List String → List ℕ
@@ -19,7 +18,7 @@ text lines = join 10 (map (λ (s : String). ascii s) lines)
 
 record Case : Type 0 where
   text : List ℕ
-  answer : Entered
+  answer : Answer
 
 -- a text that is read: how many bytes its strings and its range have
 sized : ℕ → ℕ → List ℕ → Case

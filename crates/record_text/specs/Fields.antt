@@ -1,9 +1,8 @@
 -- The fields of a record text, as data: docs/RECORD-FORMAT.md, Fields. Assumes nothing: these are definitions. A field is named
 -- by the kind of its group, its Index where the kind has one, and its number in the group. Where a structure's fields stand and
 -- which of its strings are secrets is the table's layout; here is added what they are called and how their values are written.
-use Rattle.std.specs.Prelude.{ℕ, ◌+◌, ◌-◌, List, [], ◌∷◌, ◌++◌, Bool, true, false, cond, not, ◌&&◌, length, get_or, take, drop, eqb, ltb}
+use Rattle.std.specs.Prelude.{ℕ, ◌+◌, ◌-◌, List, [], ◌∷◌, ◌++◌, Bool, true, false, cond, not, ◌&&◌, length, get_or, take, drop, eqb, ltb, Option, None, Some}
 use Prim.Native.Char.{code}
-use Rattle.std.proofs.Math.Option.{Option, none, some}
 use Rattle.text.specs.Put.{ascii}
 use Rattle.text.specs.Split.{before, index_of, same}
 use Rattle.text.specs.Words.{word_at, word_number}
@@ -21,8 +20,7 @@ use Rattle.ibft_layout.specs.Layout.{
 use Rattle.record_text.specs.declared.fields.Notation.{Notation}
 use Rattle.record_text.specs.declared.fields.Notation.TheVariants.{Oem, Mode, Flags, Number, Port, Address, Mac, Pci, Chap, Text}
 use Rattle.record_text.specs.declared.fields.FieldLayout.{FieldLayout}
-use Rattle.record_text.specs.declared.fields.Found.{Found}
-use Rattle.record_text.specs.declared.fields.Found.TheVariants.{Named, Nothing}
+use Rattle.record_text.specs.declared.fields.FieldName.{FieldName}
 
 -- ---- notations
 
@@ -188,31 +186,31 @@ name_of kind index n = word_at group_names kind ++ (index_text kind index ++ dot
 -- the Index that stands behind a kind's name: up to 255, as its digits are told; of a kind without an Index nothing stands
 -- there
 abbrev pub told : List ℕ → Option ℕ → Option ℕ
-told text none = none
-told text (some n) = cond (same (digits 10 n) text) (some n) none
+told text None = None
+told text (Some n) = cond (same (digits 10 n) text) (Some n) None
 
 unfoldable pub index_in : ℕ → List ℕ → Option ℕ
-index_in kind text = cond (ltb kind first_indexed) (cond (eqb (length text) 0) (some 0) none) (told text (number_up_to 255 text))
+index_in kind text = cond (ltb kind first_indexed) (cond (eqb (length text) 0) (Some 0) None) (told text (number_up_to 255 text))
 
 -- a group's name: the kind's name stands before the first digit
 unfoldable pub is_digit : ℕ → Bool
 is_digit b = within (code "0") (code "9") b
 
 -- a field of a kind by its number, where there is one
-unfoldable pub found : ℕ → ℕ → Option ℕ → Found
-found kind n none = Nothing
-found kind n (some index) =
-    cond (ltb kind kind_count && ltb n (field_count kind)) (Named (record { kind = kind; index = index; field = n })) Nothing
+unfoldable pub found : ℕ → ℕ → Option ℕ → Option FieldName
+found kind n None = None
+found kind n (Some index) =
+    cond (ltb kind kind_count && ltb n (field_count kind)) (Some (record { kind = kind; index = index; field = n })) None
 
 -- the field that a name names: what stands before the first dot is the group, what stands behind it the field in the group; a
 -- name that ends in its first dot names none
-unfoldable pub found_in : List ℕ → List ℕ → Found
+unfoldable pub found_in : List ℕ → List ℕ → Option FieldName
 found_in group own =
     let letters = before is_digit group in
     let kind = word_number group_names (take letters group) in
     found kind (word_number (group_of kind).names own) (index_in kind (drop letters group))
 
-unfoldable pub field_named : List ℕ → Found
+unfoldable pub field_named : List ℕ → Option FieldName
 field_named name =
     let dot = index_of (code ".") name in
-    cond (eqb (dot + 1) (length name)) Nothing (found_in (take dot name) (drop (dot + 1) name))
+    cond (eqb (dot + 1) (length name)) None (found_in (take dot name) (drop (dot + 1) name))

@@ -3,6 +3,7 @@ pub mod Fields
 pub mod Value
 pub mod Enter
 pub mod Entering
+pub mod Steps
 pub mod Tell
 pub mod Computing
 pub mod EnterCases

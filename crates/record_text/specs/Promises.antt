@@ -4,7 +4,7 @@ use Rattle.octets.specs.Octets.{byte}
 use Rattle.ibft_layout.specs.Layout.{entry_count}
 use Rattle.ibft_table.specs.Check.{check_of}
 use Rattle.ibft_table.specs.Record.{record_of}
-use Rattle.table_header.specs.declared.verdict.Verdict.TheVariants.{Accepted}
+use Rattle.table_header.specs.Verdict.{Accepted}
 use Rattle.ibft_build_rules.specs.RecordRange.{largest_size, content_given, record_given}
 use Rattle.ibft_build_rules.specs.Refusals.{contents_verdict}
 use Rattle.ibft_build_rules.specs.Plan.{length_built}

@@ -1,15 +1,13 @@
 -- What a table holds, as text: docs/RECORD-FORMAT.md, What tell writes. Assumes nothing: these are definitions.
-use Rattle.std.specs.Prelude.{ℕ, ◌+◌, ◌-◌, List, [], ◌∷◌, ◌++◌, Bool, cond, not, ◌&&◌, ◌||◌, get_or, eqb, ltb}
+use Rattle.std.specs.Prelude.{ℕ, ◌+◌, ◌-◌, List, [], ◌∷◌, ◌++◌, Bool, cond, not, ◌&&◌, ◌||◌, get_or, eqb, ltb, Option, None, Some, option_map, Ok, Err}
 use Prim.Native.Char.{code}
-use Rattle.std.proofs.Math.Option.{Option, none, some, map}
 use Rattle.octets.specs.Counting.{gather}
 use Rattle.octets.specs.Octets.{part, all_zero}
 use Rattle.text.specs.Put.{ascii}
 use Rattle.ibft_layout.specs.Layout.{kind_of, flags_at, first_entry}
 use Rattle.ibft_table.specs.Record.{Record, record_of}
 use Rattle.ibft_table.specs.Check.{check_of}
-use Rattle.table_header.specs.declared.verdict.Verdict.{Verdict}
-use Rattle.table_header.specs.declared.verdict.Verdict.TheVariants.{Accepted, Refused}
+use Rattle.table_header.specs.Verdict.{Verdict}
 use Rattle.record_text.specs.Fields.{first_structure, is_text, is_always, is_secret, field_count, plain_count, field_of, name_of}
 use Rattle.record_text.specs.Value.{field_text}
 use Rattle.record_text.specs.Enter.{group_count}
@@ -36,13 +34,13 @@ within field body = part body (field.at - flags_at) field.width
 unfoldable pub structure_field : Record → ℕ → ℕ → ℕ → Option (List ℕ)
 structure_field r k kind n =
     cond (is_text (field_of kind n).notation)
-    (get_or r.entries (first_entry k + (n - plain_count kind)) none)
-    (map (within (field_of kind n)) (get_or r.structures k none))
+    (get_or r.entries (first_entry k + (n - plain_count kind)) None)
+    (option_map (within (field_of kind n)) (get_or r.structures k None))
 
 unfoldable pub record_field : Record → ℕ → ℕ → Option (List ℕ)
 record_field r g n =
-    cond (eqb g 0) (some (cond (eqb n 1) r.oem_table_id r.oem_id))
-    (cond (eqb g 1) (some (r.flags ∷ [])) (structure_field r (slot_in g) (kind_number g) n))
+    cond (eqb g 0) (Some (cond (eqb n 1) r.oem_table_id r.oem_id))
+    (cond (eqb g 1) (Some (r.flags ∷ [])) (structure_field r (slot_in g) (kind_number g) n))
 
 -- ---- a line
 
@@ -60,8 +58,8 @@ hidden_line kind index n = ascii "# " ++ (name_of kind index n ++ (ascii " is hi
 
 -- the line of a field with these bytes; nothing where it is not told
 unfoldable pub line_of : Bool → ℕ → ℕ → ℕ → Option (List ℕ) → List ℕ
-line_of hide kind index n none = []
-line_of hide kind index n (some bytes) =
+line_of hide kind index n None = []
+line_of hide kind index n (Some bytes) =
     cond (hide && is_secret kind n) (hidden_line kind index n) (cond (is_told kind n bytes) (line_with kind index n bytes) [])
 
 -- ---- the text: group by group, in each field by field
@@ -78,8 +76,8 @@ record_text hide r = gather (group_text hide r) 0 group_count
 
 -- .. of a table; nothing where the check refuses it
 unfoldable pub if_accepted : Verdict → List ℕ → List ℕ
-if_accepted Accepted text = text
-if_accepted (Refused refusal) text = []
+if_accepted (Ok u) text = text
+if_accepted (Err refusal) text = []
 
 unfoldable pub table_text : Bool → List ℕ → List ℕ
 table_text hide t = if_accepted (check_of t) (record_text hide (record_of t))

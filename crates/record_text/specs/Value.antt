@@ -1,22 +1,19 @@
 -- The value of a field as text, and the bytes it has in a record: docs/RECORD-FORMAT.md, Values. Assumes nothing: these are
 -- definitions.
-use Rattle.std.specs.Prelude.{ℕ, ◌-◌, ◌^◌, List, [], ◌∷◌, ◌++◌, Bool, true, false, cond, ◌||◌, length, take, eqb, leb, ltb}
-use Rattle.std.proofs.Math.Option.{Option, none, some, map}
-use Rattle.octets.specs.Octets.{byte, word16, word64, bytes_at, le16, le64, zeros}
+use Rattle.std.specs.Prelude.{ℕ, List, [], ◌∷◌, Bool, true, cond, take, eqb, leb, ltb, Option, None, Some, option_map}
+use Rattle.octets.specs.Octets.{byte, word16, word64, bytes_at, le16}
 use Rattle.text.specs.Put.{ascii}
 use Rattle.text.specs.Split.{index_of}
 use Rattle.text.specs.Words.{word_at, word_count, word_number, read_word_set, word_set_text}
-use Rattle.text.specs.declared.words.WordSet.{WordSet}
-use Rattle.text.specs.declared.words.WordSet.TheVariants.{Value as Set, Bad as NoSet}
-use Rattle.notation.specs.Number.{number_up_to, digits}
+use Rattle.notation.specs.Number.{digits}
 use Rattle.notation.specs.Address.{read_address, address_text}
 use Rattle.notation.specs.Mac.{read_mac, mac_text}
 use Rattle.notation.specs.Pci.{read_pci, pci_text}
 use Rattle.notation.specs.Escape.{string_of, string_text}
+use Rattle.notation.specs.Value.{filled, is_width, number_bytes}
 use Rattle.record_text.specs.Fields.{group_of, field_of}
 use Rattle.record_text.specs.declared.fields.Notation.{Notation}
 use Rattle.record_text.specs.declared.fields.Notation.TheVariants.{Oem, Mode, Flags, Number, Port, Address, Mac, Pci, Chap, Text}
-use Rattle.record_text.specs.declared.value.Value.{Value}
 
 -- the words of the login mode and of the CHAP type
 abbrev pub modes : List ℕ
@@ -29,21 +26,11 @@ chap_types = ascii "none one-way mutual"
 
 -- a word of the list as its number
 unfoldable pub word_byte : List ℕ → List ℕ → Option (List ℕ)
-word_byte list text = cond (ltb (word_number list text) (word_count list)) (some (word_number list text ∷ [])) none
+word_byte list text = cond (ltb (word_number list text) (word_count list)) (Some (word_number list text ∷ [])) None
 
 -- a set of words as its number
-abbrev pub set_byte : WordSet → Option (List ℕ)
-set_byte (Set v) = some (v ∷ [])
-set_byte NoSet = none
-
--- a string of at most `width` bytes, filled with zeros
-abbrev pub filled : ℕ → Option (List ℕ) → Option (List ℕ)
-filled width none = none
-filled width (some s) = cond (leb (length s) width) (some (s ++ zeros (width - length s))) none
-
--- a number as `width` bytes, the lowest first, where it fits into them
-unfoldable pub number_bytes : ℕ → List ℕ → Option (List ℕ)
-number_bytes width text = map (λ (n : ℕ). take width (le64 n)) (number_up_to (256 ^ width - 1) text)
+abbrev pub set_byte : Option ℕ → Option (List ℕ)
+set_byte set = option_map (λ (v : ℕ). v ∷ []) set
 
 -- the bytes of a value that is no string: `flags` are the names of the structure's flags
 unfoldable pub value_bytes : List ℕ → Notation → ℕ → List ℕ → Option (List ℕ)
@@ -54,27 +41,22 @@ value_bytes flags Number width text = number_bytes width text
 value_bytes flags Port width text = number_bytes width text
 value_bytes flags Address width text = read_address text
 value_bytes flags Mac width text = read_mac text
-value_bytes flags Pci width text = map le16 (read_pci text)
+value_bytes flags Pci width text = option_map le16 (read_pci text)
 value_bytes flags Chap width text = word_byte chap_types text
-value_bytes flags Text width text = none
+value_bytes flags Text width text = None
 
 -- a width that the notation can have
 unfoldable pub fits : Notation → ℕ → Bool
 fits Oem width = leb width 16
 fits Mode width = eqb width 1
 fits Flags width = eqb width 1
-fits Number width = eqb width 1 || eqb width 2 || eqb width 8
+fits Number width = is_width width
 fits Port width = eqb width 2
 fits Address width = eqb width 16
 fits Mac width = eqb width 6
 fits Pci width = eqb width 2
 fits Chap width = eqb width 1
 fits Text width = true
-
--- as the code answers it: the bytes, and zeros behind them up to 16
-unfoldable pub value_read : Option (List ℕ) → Value
-value_read none = record { ok = false; bytes = zeros 16 }
-value_read (some bytes) = record { ok = true; bytes = bytes ++ zeros (16 - length bytes) }
 
 -- the bytes of field n of a kind with this text as its value
 abbrev pub field_bytes : ℕ → ℕ → List ℕ → Option (List ℕ)

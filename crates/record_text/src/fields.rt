@@ -1,11 +1,11 @@
 // The fields of a record text, as data. A field is named by the kind of its group, the group's Index where the kind has one,
 // and its number in the group. Where a structure's fields stand, and which of its strings are secrets, is the table's layout
-// (ibft_table); here is added what they are called and how their values are written.
+// (ibft_layout); here is added what they are called and how their values are written.
 ghost use Rattle.std.specs.Prelude.{◌≡◌, ◌+◌, ◌≤◌, ◌<◌, length};
 ghost use Rattle.text.specs.Put.{Puts};
 ghost use Rattle.text.specs.Split.{before, same};
 ghost use Rattle.text.specs.Words.{word_at, word_number};
-ghost use Rattle.notation.specs.Number.{answer, digits};
+ghost use Rattle.notation.specs.Number.{digits};
 ghost use Rattle.ibft_layout.specs.Shapes.{field_shape};
 ghost use Rattle.record_text.specs.Fields.{oem, initiator, nic, target, group_of, field_count, plain_count, is_text, is_oem, is_always};
 ghost use Rattle.record_text.specs.Fields.{notation_in, place_in, is_secret, field_of, index_text, dotted, name_of, index_in, is_digit};
@@ -14,7 +14,7 @@ ghost use Rattle.record_text.specs.Fields.{found_in, field_named};
 use ibft_build_rules::range::{CONTROL_FLAGS_AT, OEM_AT};
 use ibft_layout::layout::{field_of, first_entry, may_share};
 use ibft_layout::shape::FieldShape;
-use notation::number::{Number, put_decimal, read_number};
+use notation::number::{put_decimal, read_number};
 use octets::read::part;
 use text::put::{put_char, put_text};
 use text::split::{index_of, same};
@@ -52,13 +52,6 @@ pub struct FieldName {
     pub field: u8,
 }
 
-// What a name names.
-#[derive(Clone, Copy)]
-pub enum Found {
-    Named(FieldName),
-    Nothing,
-}
-
 // ---- kinds of group: the header's is 0, every other has its structure's ID
 
 pub(crate) const KIND_COUNT: u8 = 5;
@@ -89,60 +82,44 @@ pub const NIC_FLAGS: [u8; 21] = *b"valid selected global";
 
 pub const TARGET_FLAGS: [u8; 39] = *b"valid selected radius-chap radius-rchap";
 
+// The words of the login mode and of the CHAP type.
+pub(crate) const MODES: [u8; 12] = *b"multi single";
+
+pub(crate) const CHAP_TYPES: [u8; 19] = *b"none one-way mutual";
+
+// The names of a kind's flags; of a kind that is no structure's, none.
+pub(crate) fn flags_of(kind: u8) -> &'static [u8]
+    ensures { result.now ≡ (group_of kind).flags }
+{
+    match kind {
+        2 => &INITIATOR_FLAGS,
+        3 => &NIC_FLAGS,
+        4 => &TARGET_FLAGS,
+        _ => b"",
+    }
+}
+
 // ---- notations
 
 // Is it a string, which stands in the strings range?
 pub fn is_text(notation: Notation) -> bool
     ensures { result ≡ is_text notation }
 {
-    match notation {
-        Notation::Oem => false,
-        Notation::Mode => false,
-        Notation::Flags => false,
-        Notation::Number => false,
-        Notation::Port => false,
-        Notation::Address => false,
-        Notation::Mac => false,
-        Notation::Pci => false,
-        Notation::Chap => false,
-        Notation::Text => true,
-    }
+    matches!(notation, Notation::Text)
 }
 
 // Is it an OEM field?
 pub fn is_oem(notation: Notation) -> bool
     ensures { result ≡ is_oem notation }
 {
-    match notation {
-        Notation::Oem => true,
-        Notation::Mode => false,
-        Notation::Flags => false,
-        Notation::Number => false,
-        Notation::Port => false,
-        Notation::Address => false,
-        Notation::Mac => false,
-        Notation::Pci => false,
-        Notation::Chap => false,
-        Notation::Text => false,
-    }
+    matches!(notation, Notation::Oem)
 }
 
 // Is such a field told where it is zero, too?
 pub fn is_always(notation: Notation) -> bool
     ensures { result ≡ is_always notation }
 {
-    match notation {
-        Notation::Oem => false,
-        Notation::Mode => true,
-        Notation::Flags => true,
-        Notation::Number => false,
-        Notation::Port => true,
-        Notation::Address => false,
-        Notation::Mac => false,
-        Notation::Pci => false,
-        Notation::Chap => false,
-        Notation::Text => false,
-    }
+    matches!(notation, Notation::Mode | Notation::Flags | Notation::Port)
 }
 
 // How the value of an initiator's field n is written; past the last, as its first's.
@@ -305,16 +282,16 @@ pub fn is_secret(kind: u8, n: u8) -> bool
 
 // ---- names
 
-// The number of a name among those of a kind's fields; how many they are where it is none of them.
-fn number_in(kind: u8, name: &[u8]) -> usize
-    ensures { result ≡ word_number (group_of kind).names name.now }
+// The names of a kind's fields; past the last kind, the header's.
+fn names_of(kind: u8) -> &'static [u8]
+    ensures { result.now ≡ (group_of kind).names }
 {
     match kind {
-        1 => word_number(&CONTROL_NAMES, name),
-        2 => word_number(&INITIATOR_NAMES, name),
-        3 => word_number(&NIC_NAMES, name),
-        4 => word_number(&TARGET_NAMES, name),
-        _ => word_number(&OEM_NAMES, name),
+        1 => &CONTROL_NAMES,
+        2 => &INITIATOR_NAMES,
+        3 => &NIC_NAMES,
+        4 => &TARGET_NAMES,
+        _ => &OEM_NAMES,
     }
 }
 
@@ -329,75 +306,54 @@ fn is_told(n: u64, text: &[u8]) -> bool
 }
 
 // The Index that stands behind a kind's name.
-fn index_in(kind: u8, text: &[u8]) -> Number
-    ensures { result ≡ answer (index_in kind text.now) }
+fn index_in(kind: u8, text: &[u8]) -> Option<u64>
+    ensures { result ≡ index_in kind text.now }
 {
     if kind < FIRST_INDEXED {
         if text.len() == 0 {
-            return Number::Value(0);
+            return Some(0);
         }
-        return Number::Bad;
+        return None;
     }
-    let Number::Value(n) = read_number(255, text) else {
-        return Number::Bad;
-    };
-    if is_told(n, text) {
-        return Number::Value(n);
-    }
-    Number::Bad
-}
-
-// A decimal digit?
-fn is_digit(b: u8) -> bool
-    ensures { result ≡ is_digit b }
-{
-    (b'0' <= b) & (b <= b'9')
+    let n = read_number(255, text)?;
+    if is_told(n, text) { Some(n) } else { None }
 }
 
 // How many bytes stand before the first decimal digit.
 fn before_digit(s: &[u8]) -> usize
     ensures { (result ≡ before is_digit s.now) × (result ≤ length s.now) }
 {
-    let mut i = 0;
-    while i < s.len() {
-        if is_digit(s[i]) {
-            return i;
-        }
-        i += 1;
-    }
-    i
+    s.iter().position(|b| b.is_ascii_digit()).unwrap_or(s.len())
 }
 
 // The field of this name in the group of this name.
-fn found_in(group: &[u8], own: &[u8]) -> Found
+fn found_in(group: &[u8], own: &[u8]) -> Option<FieldName>
     ensures { result ≡ found_in group.now own.now }
 {
     let letters = before_digit(group);
     let kind = word_number(&GROUP_NAMES, &group[..letters]);
     if KIND_COUNT as usize <= kind {
-        return Found::Nothing;
+        return None;
     }
-    let n = number_in(kind as u8, own);
+    let n = word_number(names_of(kind as u8), own);
     if field_count(kind as u8) as usize <= n {
-        return Found::Nothing;
+        return None;
     }
-    match index_in(kind as u8, part(group, letters, group.len())) {
-        Number::Value(index) => Found::Named(FieldName {
-            kind: kind as u8,
-            index: index as u8,
-            field: n as u8,
-        }),
-        Number::Bad => Found::Nothing,
-    }
+    let index = index_in(kind as u8, part(group, letters, group.len()))?;
+    Some(FieldName {
+        kind: kind as u8,
+        index: index as u8,
+        field: n as u8,
+    })
 }
 
 // The field that a name names.
-pub fn field_named(name: &[u8]) -> Found
+pub fn field_named(name: &[u8]) -> Option<FieldName>
     ensures { result ≡ field_named name.now }
 {
     let dot = index_of(name, b'.');
     if dot + 1 == name.len() {
-        return Found::Nothing;
+        return None;
     }
     found_in(&name[..dot], part(name, dot + 1, name.len()))
 }
@@ -412,19 +368,6 @@ fn put_dotted(room: &mut [u8], at: usize, list: &[u8], n: usize) -> usize
     }
     let place = put_char(room, at, b'.');
     put_text(room, place, word)
-}
-
-// Puts the name that field n of a kind has in its group.
-fn put_own_name(room: &mut [u8], at: usize, kind: u8, n: usize) -> usize
-    ensures { Puts room.old room.new at result (dotted (word_at (group_of kind).names n)) }
-{
-    match kind {
-        1 => put_dotted(room, at, &CONTROL_NAMES, n),
-        2 => put_dotted(room, at, &INITIATOR_NAMES, n),
-        3 => put_dotted(room, at, &NIC_NAMES, n),
-        4 => put_dotted(room, at, &TARGET_NAMES, n),
-        _ => put_dotted(room, at, &OEM_NAMES, n),
-    }
 }
 
 // Puts the Index of a group; nothing where its kind has none.
@@ -443,5 +386,5 @@ pub fn put_name(room: &mut [u8], at: usize, f: FieldName) -> usize
 {
     let kind = put_text(room, at, word_at(&GROUP_NAMES, f.kind as usize));
     let index = put_index(room, kind, f.kind, f.index);
-    put_own_name(room, index, f.kind, f.field as usize)
+    put_dotted(room, index, names_of(f.kind), f.field as usize)
 }

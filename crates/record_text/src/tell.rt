@@ -1,6 +1,5 @@
 // What a table holds, as text: its record, group by group and in each field by field, put into room.
-ghost use Rattle.std.specs.Prelude.{◌≡◌, ◌+◌, ◌≤◌, ◌<◌, length};
-ghost use Rattle.std.proofs.Math.Option.{some};
+ghost use Rattle.std.specs.Prelude.{◌≡◌, ◌+◌, ◌≤◌, ◌<◌, length, Some};
 ghost use Rattle.text.specs.Put.{Puts};
 ghost use Rattle.ibft_layout.specs.Layout.{kind_of, slot_count};
 ghost use Rattle.ibft_table.specs.Table.{starts_of};
@@ -21,10 +20,9 @@ use ibft_table::seats::starts_of;
 use ibft_table::starts::{holds_entry, index_in, start_in, string_words_at};
 use octets::read::{all_zero, byte_at, part, u16_at};
 use table_header::header::{OEM_ID_AT, OEM_TABLE_ID_AT};
-use table_header::verdict::Verdict;
 use text::put::{put_char, put_text};
 
-// The groups: the header, Control, then the structures by slot. Where Control's flags stand in a table.
+// The groups: the header, Control, then the structures by slot.
 const GROUP_COUNT: u8 = FIRST_STRUCTURE + SLOT_COUNT;
 
 // ---- a line
@@ -55,7 +53,7 @@ fn put_hidden(room: &mut [u8], at: usize, f: FieldName) -> usize
 
 // Puts the line of a field that has these bytes; nothing where it is not told.
 fn put_line(room: &mut [u8], at: usize, hide: bool, f: FieldName, bytes: &[u8]) -> usize
-    ensures { Puts room.old room.new at result (line_of hide f.kind f.index f.field (some bytes.now)) }
+    ensures { Puts room.old room.new at result (line_of hide f.kind f.index f.field (Some bytes.now)) }
 {
     if hide & is_secret(f.kind, f.field) {
         return put_hidden(room, at, f);
@@ -69,103 +67,7 @@ fn put_line(room: &mut [u8], at: usize, hide: bool, f: FieldName, bytes: &[u8]) 
     put_char(room, value, b'\n')
 }
 
-// ---- the fields of a table with these starts by slot, and of group g: the header, Control, then the structures by slot
-
-// Puts the line of an OEM field.
-fn put_oem_line(room: &mut [u8], at: usize, hide: bool, t: &[u8], f: FieldName) -> usize
-    ensures { Puts room.old room.new at result
-        (line_of hide f.kind f.index f.field (record_field (record_of t.now) 0 f.field)) }
-{
-    if f.field == 1 {
-        return put_line(room, at, hide, f, part(t, OEM_TABLE_ID_AT as usize, 8));
-    }
-    put_line(room, at, hide, f, part(t, OEM_ID_AT as usize, 6))
-}
-
-// Puts the line of Control's flags.
-fn put_mode_line(room: &mut [u8], at: usize, hide: bool, t: &[u8], f: FieldName) -> usize
-    ensures { Puts room.old room.new at result
-        (line_of hide f.kind f.index f.field (record_field (record_of t.now) 1 f.field)) }
-{
-    let flags = [byte_at(t, Control::FLAGS_AT as usize)];
-    put_line(room, at, hide, f, &flags[..])
-}
-
-// Puts the line of a string of slot k's structure; nothing where the string is missing.
-fn put_string_line(
-    room: &mut [u8],
-    at: usize,
-    hide: bool,
-    t: &[u8],
-    starts: &[u16],
-    k: u8,
-    f: FieldName,
-) -> usize
-    requires { (starts.now ≡ starts_of t.now) × (k < slot_count) × (f.kind ≡ (kind_of k).id)
-        × (plain_count f.kind ≤ f.field) × (f.field < field_count f.kind) }
-    ensures { Puts room.old room.new at result
-        (line_of hide f.kind f.index f.field (record_field (record_of t.now) (2 + k) f.field)) }
-{
-    let entry = first_entry(k) + (f.field - plain_count(f.kind)) as u16;
-    if !holds_entry(starts, t, entry) {
-        return put_text(room, at, b"");
-    }
-    let words = string_words_at(starts, entry) as usize;
-    let size = u16_at(t, words) as usize;
-    let offset = u16_at(t, words + 2) as usize;
-    put_line(room, at, hide, f, part(t, offset, size))
-}
-
-// Puts the line of another field of slot k's structure; nothing where the structure is absent.
-fn put_plain_line(
-    room: &mut [u8],
-    at: usize,
-    hide: bool,
-    t: &[u8],
-    starts: &[u16],
-    k: u8,
-    f: FieldName,
-) -> usize
-    requires { (starts.now ≡ starts_of t.now) × (k < slot_count) × (f.kind ≡ (kind_of k).id) × (f.field < plain_count f.kind) }
-    ensures { Puts room.old room.new at result
-        (line_of hide f.kind f.index f.field (record_field (record_of t.now) (2 + k) f.field)) }
-{
-    let start = start_in(starts, k as u16) as usize;
-    if start == 0 {
-        return put_text(room, at, b"");
-    }
-    let field = field_at(f.kind, f.field);
-    let place = start + field.at as usize;
-    put_line(room, at, hide, f, part(t, place, field.width as usize))
-}
-
-// Puts the line of field f of group g.
-fn put_field(
-    room: &mut [u8],
-    at: usize,
-    hide: bool,
-    t: &[u8],
-    starts: &[u16],
-    g: u8,
-    f: FieldName,
-) -> usize
-    requires { (starts.now ≡ starts_of t.now) × (g < group_count) × (f.kind ≡ kind_number g) × (f.field < field_count f.kind) }
-    ensures { Puts room.old room.new at result
-        (line_of hide f.kind f.index f.field (record_field (record_of t.now) g f.field)) }
-{
-    if g == 0 {
-        return put_oem_line(room, at, hide, t, f);
-    }
-    if g == 1 {
-        return put_mode_line(room, at, hide, t, f);
-    }
-    if f.field < plain_count(f.kind) {
-        return put_plain_line(room, at, hide, t, starts, g - FIRST_STRUCTURE, f);
-    }
-    put_string_line(room, at, hide, t, starts, g - FIRST_STRUCTURE, f)
-}
-
-// The kind of group g.
+// The kind of group g: the header, Control, then the structures by slot.
 fn kind_number(g: u8) -> u8
     ensures { result ≡ kind_number g }
 {
@@ -175,51 +77,136 @@ fn kind_number(g: u8) -> u8
     kind_of(g - FIRST_STRUCTURE).id
 }
 
-// Its Index.
-fn index_held(t: &[u8], starts: &[u16], g: u8) -> u8
-    requires { (starts.now ≡ starts_of t.now) × (g < group_count) }
-    ensures { result ≡ index_held (record_of t.now) g }
-{
-    if g < FIRST_STRUCTURE {
-        return 0;
-    }
-    index_in(starts, t, (g - FIRST_STRUCTURE) as u16)
+// ---- the fields of a table
+
+// A table as it is told: its bytes, its starts by slot, and whether its secrets are hidden.
+#[derive(Drop)]
+struct Told<'a> {
+    t: &'a [u8],
+    starts: [u16; SLOT_COUNT as usize],
+    hide: bool,
+    ghost are_its: { starts ≡ starts_of t.now },
 }
 
-// Puts the lines of group g.
-fn put_group(room: &mut [u8], at: usize, hide: bool, t: &[u8], starts: &[u16], g: u8) -> usize
-    requires { (starts.now ≡ starts_of t.now) × (g < group_count) × (at ≤ length room.old) }
-    ensures { Puts room.old room.new at result (group_text hide (record_of t.now) g) }
-{
-    let kind = kind_number(g);
-    let index = index_held(t, starts, g);
-    let count = field_count(kind);
-    let mut end = at;
-    let mut n: u8 = 0;
-    while n < count {
-        let f = FieldName {
-            kind,
-            index,
-            field: n,
-        };
-        end = put_field(room, end, hide, t, starts, g, f);
-        n += 1;
+impl Told<'_> {
+    // Puts the line of an OEM field.
+    fn put_oem_line(&self, room: &mut [u8], at: usize, f: FieldName) -> usize
+        ensures { Puts room.old room.new at result
+            (line_of self.now.hide f.kind f.index f.field (record_field (record_of self.now.t.now) 0 f.field)) }
+    {
+        if f.field == 1 {
+            return put_line(
+                room,
+                at,
+                self.hide,
+                f,
+                part(self.t, OEM_TABLE_ID_AT as usize, 8),
+            );
+        }
+        put_line(room, at, self.hide, f, part(self.t, OEM_ID_AT as usize, 6))
     }
-    end
-}
 
-// Puts the lines of all groups.
-fn put_record(room: &mut [u8], hide: bool, t: &[u8]) -> usize
-    ensures { Puts room.old room.new 0 result (record_text hide (record_of t.now)) }
-{
-    let starts = starts_of(t);
-    let mut end: usize = 0;
-    let mut g: u8 = 0;
-    while g < GROUP_COUNT {
-        end = put_group(room, end, hide, t, &starts, g);
-        g += 1;
+    // Puts the line of Control's flags.
+    fn put_mode_line(&self, room: &mut [u8], at: usize, f: FieldName) -> usize
+        ensures { Puts room.old room.new at result
+            (line_of self.now.hide f.kind f.index f.field (record_field (record_of self.now.t.now) 1 f.field)) }
+    {
+        let flags = [byte_at(self.t, Control::FLAGS_AT as usize)];
+        put_line(room, at, self.hide, f, &flags)
     }
-    end
+
+    // Puts the line of a string of slot k's structure; nothing where the string is missing.
+    fn put_string_line(&self, room: &mut [u8], at: usize, k: u8, f: FieldName) -> usize
+        requires { (k < slot_count) × (f.kind ≡ (kind_of k).id) × (plain_count f.kind ≤ f.field) × (f.field < field_count f.kind) }
+        ensures { Puts room.old room.new at result
+            (line_of self.now.hide f.kind f.index f.field (record_field (record_of self.now.t.now) (2 + k) f.field)) }
+    {
+        let entry = first_entry(k) + (f.field - plain_count(f.kind)) as u16;
+        if !holds_entry(&self.starts, self.t, entry) {
+            return put_text(room, at, b"");
+        }
+        let words = string_words_at(&self.starts, entry) as usize;
+        let size = u16_at(self.t, words) as usize;
+        let offset = u16_at(self.t, words + 2) as usize;
+        put_line(room, at, self.hide, f, part(self.t, offset, size))
+    }
+
+    // Puts the line of another field of slot k's structure; nothing where the structure is absent.
+    fn put_plain_line(&self, room: &mut [u8], at: usize, k: u8, f: FieldName) -> usize
+        requires { (k < slot_count) × (f.kind ≡ (kind_of k).id) × (f.field < plain_count f.kind) }
+        ensures { Puts room.old room.new at result
+            (line_of self.now.hide f.kind f.index f.field (record_field (record_of self.now.t.now) (2 + k) f.field)) }
+    {
+        let start = start_in(&self.starts, k as u16) as usize;
+        if start == 0 {
+            return put_text(room, at, b"");
+        }
+        let field = field_at(f.kind, f.field);
+        let place = start + field.at as usize;
+        put_line(
+            room,
+            at,
+            self.hide,
+            f,
+            part(self.t, place, field.width as usize),
+        )
+    }
+
+    // Puts the line of field f of group g.
+    fn put_field(&self, room: &mut [u8], at: usize, g: u8, f: FieldName) -> usize
+        requires { (g < group_count) × (f.kind ≡ kind_number g) × (f.field < field_count f.kind) }
+        ensures { Puts room.old room.new at result
+            (line_of self.now.hide f.kind f.index f.field (record_field (record_of self.now.t.now) g f.field)) }
+    {
+        if g == 0 {
+            return self.put_oem_line(room, at, f);
+        }
+        if g == 1 {
+            return self.put_mode_line(room, at, f);
+        }
+        if f.field < plain_count(f.kind) {
+            return self.put_plain_line(room, at, g - FIRST_STRUCTURE, f);
+        }
+        self.put_string_line(room, at, g - FIRST_STRUCTURE, f)
+    }
+
+    // The Index of group g.
+    fn index_held(&self, g: u8) -> u8
+        requires { g < group_count }
+        ensures { result ≡ index_held (record_of self.now.t.now) g }
+    {
+        if g < FIRST_STRUCTURE {
+            return 0;
+        }
+        index_in(&self.starts, self.t, (g - FIRST_STRUCTURE) as u16)
+    }
+
+    // Puts the lines of group g.
+    fn put_group(&self, room: &mut [u8], at: usize, g: u8) -> usize
+        requires { (g < group_count) × (at ≤ length room.old) }
+        ensures { Puts room.old room.new at result (group_text self.now.hide (record_of self.now.t.now) g) }
+    {
+        let kind = kind_number(g);
+        let index = self.index_held(g);
+        let count = field_count(kind);
+        let mut end = at;
+        for field in 0..count {
+            let f = FieldName { kind, index, field };
+            end = self.put_field(room, end, g, f);
+        }
+        end
+    }
+
+    // Puts the lines of all groups.
+    fn put_record(&self, room: &mut [u8]) -> usize
+        ensures { Puts room.old room.new 0 result (record_text self.now.hide (record_of self.now.t.now)) }
+    {
+        let mut end = 0;
+        for g in 0..GROUP_COUNT {
+            end = self.put_group(room, end, g);
+        }
+        end
+    }
 }
 
 // Puts the text of a table into room, as far as it fits, and answers the place behind it; nothing where the check refuses the
@@ -228,7 +215,14 @@ pub fn tell(room: &mut [u8], t: &[u8], hide: bool) -> usize
     ensures { Puts room.old room.new 0 result (table_text hide t.now) }
 {
     match check(t) {
-        Verdict::Accepted => put_record(room, hide, t),
-        Verdict::Refused(_) => put_text(room, 0, b""),
+        Ok(()) => {
+            let told = Told {
+                t,
+                starts: starts_of(t),
+                hide,
+            };
+            told.put_record(room)
+        }
+        Err(_) => put_text(room, 0, b""),
     }
 }

@@ -7,10 +7,10 @@
 --     lines-told                  the text leads from a draft of which nothing is given to that with all groups entered
 --     entered-used, entered-short, entered-room     its strings have as many bytes as the table's together, at most 255 each
 -- Assumes nothing.
+use Rattle.std.specs.Prelude.{Option, None, Some}
 use mathlib.Core.Path.{◌≡◌, refl, sym, ap, ◌∙◌}
 use mathlib.Core.List.{List, [], ◌∷◌}
 use mathlib.Core.Bool.{Bool, true, false, cond, not, ◌||◌}
-use mathlib.Core.Option.{Option, none, some}
 use Prim.Native.Nat.{ℕ, zero, suc, ◌+◌, ◌-◌, ◌*◌, ◌≤◌, ◌<◌}
 use native.Mathlib.Decide.{dec_lt}
 use native.Mathlib.Omega.{arith}
@@ -24,7 +24,7 @@ use Rattle.text.specs.Split.{before, trim_end, trim, pieces}
 use Rattle.ibft_layout.specs.Layout.{kind_of, entry_count, first_entry}
 use Rattle.ibft_table.specs.Check.{check_of}
 use Rattle.ibft_table.specs.Record.{Record, record_of}
-use Rattle.table_header.specs.declared.verdict.Verdict.TheVariants.{Accepted}
+use Rattle.table_header.specs.Verdict.{Accepted}
 use Rattle.record_text.specs.Fields.{first_structure, first_indexed, group_of, is_text, is_always, field_of, field_count, plain_count}
 use Rattle.record_text.specs.Enter.{Draft, group_count, group_number, given_at, has_slot, with_value, with_string, capacity, step_of, no_field}
 use Rattle.record_text.specs.Enter.{says_nothing, line_step, lines_from}
@@ -66,7 +66,7 @@ abbrev pub entries_to : ℕ → ℕ → ℕ
 entries_to g n = first_entry (slot_in g) + (n - plain_count (kind_number g))
 
 abbrev pub size_held : Record → ℕ → ℕ
-size_held r e = length_held (get_or r.entries e none)
+size_held r e = length_held (get_or r.entries e None)
 
 -- no field from this one on is given, and the strings of those before it are behind one another
 pub record Ready (marks : List ℕ) (r : Record) (size g n : ℕ) (d : Draft) : Type 0 where
@@ -115,7 +115,7 @@ module _ (t : List ℕ) (ok : check_of t ≡ Accepted) (small : Bytes t) (marks 
       f = name_in r g n
 
       -- one that is told
-      module _ (bytes : List ℕ) (told : record_field r g n ≡ some bytes) where
+      module _ (bytes : List ℕ) (told : record_field r g n ≡ Some bytes) where
         seat : has_slot d.marks f ≡ true
         seat = rw ready.seated (group-has marks r seats g n group (told-held t ok small g n group number bytes told))
 
@@ -165,21 +165,21 @@ module _ (t : List ℕ) (ok : check_of t ≡ Accepted) (small : Bytes t) (marks 
       unfolding line_of valued is_told length_held
       field-entered = go (record_field r g n) refl (is_text (field_of kind n).notation) refl
         where
-          used-none : record_field r g n ≡ none → (text : Bool) → is_text (field_of kind n).notation ≡ text
+          used-none : record_field r g n ≡ None → (text : Bool) → is_text (field_of kind n).notation ≡ text
               → d.used ≡ sum_to (entries_to g (suc n)) (size_held r)
           used-none e true text = let same = rw e at (used-text text) in omega (arith, same)
           used-none e false plain = used-plain plain
 
           go : (o : Option (List ℕ)) → record_field r g n ≡ o → (text : Bool) → is_text (field_of kind n).notation ≡ text → Enters o
-          go none e text s = (leads-none lines_from d, ready-untold (used-none e text s))
-          go (some bytes) e true s =
+          go None e text s = (leads-none lines_from d, ready-untold (used-none e text s))
+          go (Some bytes) e true s =
               rw s (
                 leads-told bytes e (with_string d f bytes)
                     (told-line-string t ok small g n group number bytes e d (seat bytes e) (first-time bytes e) s
                     (fits bytes e s)),
                 ready-string bytes e s,
               )
-          go (some bytes) e false s = rw s (plain (is_always (field_of kind n).notation || not (all_zero bytes)))
+          go (Some bytes) e false s = rw s (plain (is_always (field_of kind n).notation || not (all_zero bytes)))
             where
               plain : (b : Bool) → Leads lines_from d (cond b (line_with kind (index_held r g) n bytes) []) (cond b (with_value d f bytes) d)
                   × Ready marks r size g (suc n) (cond b (with_value d f bytes) d)

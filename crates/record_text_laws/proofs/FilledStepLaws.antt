@@ -3,10 +3,10 @@
 --     filled-step                     one field
 --     filled-fields, filled-groups     the fields of a group, all groups
 -- Assumes nothing.
+use Rattle.std.specs.Prelude.{None}
 use mathlib.Core.Path.{◌≡◌, refl, sym, ap, ap₂, ◌∙◌}
 use mathlib.Core.Bool.{Bool, true, false, cond, ◌||◌}
 use mathlib.Core.List.{List}
-use mathlib.Core.Option.{none}
 use Prim.Native.Nat.{ℕ, zero, suc, ◌+◌, ◌-◌, ◌≤◌, ◌<◌}
 use native.Mathlib.Decide.{dec_lt}
 use native.Mathlib.Omega.{arith}
@@ -65,7 +65,7 @@ module _ {t marks range strings : List ℕ} (lent : Lent t marks range strings) 
                   let z : first_structure + k ≡ g = omega arith in
                   let away : present t k ≡ false = sym (holds-slot t k) ∙ ap (holds_group t) z ∙ off in
                   let below : n < field_count (kind_in k) = omega (arith, ap (λ (g : ℕ). field_count (kind_number g)) z, ap field_count (kind-slot k)) in
-                  let nothing : record_field (record_of t) g n ≡ none = ap (λ (g : ℕ). record_field (record_of t) g n) (sym z) ∙ absent-field t k hk n below away in
+                  let nothing : record_field (record_of t) g n ≡ None = ap (λ (g : ℕ). record_field (record_of t) g n) (sym z) ∙ absent-field t k hk n below away in
                   rw nothing (absent-entered lent h l filled k hk z away)
             ]
 

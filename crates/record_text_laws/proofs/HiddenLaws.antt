@@ -4,10 +4,10 @@
 --     hidden-text-same        .. the whole text
 --     hidden-other            a field that is no secret is told as ever
 -- Assumes nothing.
+use Rattle.std.specs.Prelude.{Option, None, Some}
 use mathlib.Core.Path.{◌≡◌, refl, ap, ◌∙◌}
 use mathlib.Core.List.{List}
 use mathlib.Core.Bool.{Bool, true, false}
-use mathlib.Core.Option.{Option, none, some}
 use Prim.Native.Nat.{ℕ, ◌<◌}
 use native.Mathlib.Omega.{arith}
 use Rattle.octets.proofs.CountingLaws.{gather-same}
@@ -31,15 +31,15 @@ module _ (kind index n : ℕ) where
   -- the line of a secret says only whether it is there
   secret-line : is_secret kind n ≡ true → (x y : Option (List ℕ)) → is_present x ≡ is_present y → line_of true kind index n x ≡ line_of true kind index n y
   unfolding line_of is_present
-  secret-line e none none same = refl
-  secret-line e none (some b) same = absurd (let z : ◌≡◌ {A = ℕ} 0 1 = cc in omega arith)
-  secret-line e (some a) none same = absurd (let z : ◌≡◌ {A = ℕ} 0 1 = cc in omega arith)
-  secret-line e (some a) (some b) same = rw e
+  secret-line e None None same = refl
+  secret-line e None (Some b) same = absurd (let z : ◌≡◌ {A = ℕ} 0 1 = cc in omega arith)
+  secret-line e (Some a) None same = absurd (let z : ◌≡◌ {A = ℕ} 0 1 = cc in omega arith)
+  secret-line e (Some a) (Some b) same = rw e
 
   other-line : is_secret kind n ≡ false → (x : Option (List ℕ)) → line_of true kind index n x ≡ line_of false kind index n x
   unfolding line_of
-  other-line e none = refl
-  other-line e (some a) = rw e
+  other-line e None = refl
+  other-line e (Some a) = rw e
 
 module _ (r r' : Record) where
   pub hidden-same : (g n : ℕ) → AgreeAt r r' g n → field_line true r g n ≡ field_line true r' g n

@@ -3,10 +3,10 @@
 --     nics-held, targets-held, size-most          the numbers of extras, and the size of the range
 --     used-present, used-held, used-sits          the groups in use
 -- Assumes nothing.
+use Rattle.std.specs.Prelude.{None}
 use mathlib.Core.Path.{◌≡◌, sym, ap, ◌∙◌, subst}
 use mathlib.Core.Bool.{true}
 use mathlib.Core.List.{List}
-use mathlib.Core.Option.{none}
 use Prim.Native.Nat.{ℕ, ◌+◌, ◌-◌, ◌*◌, ◌≤◌, ◌<◌}
 use native.Mathlib.Decide.{dec_lt}
 use native.Mathlib.Omega.{arith}
@@ -17,7 +17,7 @@ use Rattle.ibft_layout.specs.Layout.{slot_count, entry_count, named_count, extra
 use Rattle.ibft_table.specs.Table.{starts_of, nics_in, present}
 use Rattle.ibft_table.specs.Check.{check_of}
 use Rattle.ibft_table.specs.Record.{record_of}
-use Rattle.table_header.specs.declared.verdict.Verdict.TheVariants.{Accepted}
+use Rattle.table_header.specs.Verdict.{Accepted}
 use Rattle.ibft_table_laws.proofs.TableLaws.{facts}
 use Rattle.ibft_table_laws.proofs.NumberingLaws.{nics-most, nics-are, targets-most, targets-are}
 use Rattle.ibft_build_rules.specs.RecordRange.{largest_size, nic_image}
@@ -47,14 +47,14 @@ module _ {t marks range strings : List ℕ} (lent : Lent t marks range strings) 
   unfolding nics_in
   nics-held =
       lent.seats.nics
-      ∙ count_same extra_most (λ (i : ℕ). is_present (get_or (record_of t).structures (extra_nics + i) none)) (λ (i : ℕ). present t (extra_nics + i))
+      ∙ count_same extra_most (λ (i : ℕ). is_present (get_or (record_of t).structures (extra_nics + i) None)) (λ (i : ℕ). present t (extra_nics + i))
       (λ i h. present-held t (extra_nics + i) (omega arith))
 
   pub targets-held : targets ≡ targets_in (starts_of t)
   unfolding targets_in
   targets-held =
       lent.seats.targets
-      ∙ count_same extra_most (λ (i : ℕ). is_present (get_or (record_of t).structures (extra_targets + i) none)) (λ (i : ℕ). present t (extra_targets + i))
+      ∙ count_same extra_most (λ (i : ℕ). is_present (get_or (record_of t).structures (extra_targets + i) None)) (λ (i : ℕ). present t (extra_targets + i))
       (λ i h. present-held t (extra_targets + i) (omega arith))
 
   pub size-most : size_by nics targets ≤ largest_size

@@ -6,10 +6,10 @@
 --     told-line-value         a field that is no string is given the table's bytes
 --     told-line-string        so is a string
 -- Assumes nothing.
+use Rattle.std.specs.Prelude.{Some}
 use mathlib.Core.Path.{◌≡◌, refl, sym, ap, ◌∙◌}
 use mathlib.Core.List.{List, [], ◌∷◌, ◌++◌, append_assoc}
 use mathlib.Core.Bool.{Bool, true, false, cond, not, ◌&&◌, ◌||◌}
-use mathlib.Core.Option.{some}
 use Prim.Native.Char.{code}
 use Prim.Native.Nat.{ℕ, ◌+◌, ◌^◌, ◌/◌, ◌%◌, ◌≤◌, ◌<◌}
 use native.Mathlib.Decide.{dec_lt}
@@ -35,7 +35,7 @@ use Rattle.ibft_layout.specs.Layout.{slot_count, named_count, kind_of, indices, 
 use Rattle.ibft_table.specs.Table.{starts_of, start_in, present_in, index_in}
 use Rattle.ibft_table.specs.Check.{check_of}
 use Rattle.ibft_table.specs.Record.{record_of, content_in, content_of}
-use Rattle.table_header.specs.declared.verdict.Verdict.TheVariants.{Accepted}
+use Rattle.table_header.specs.Verdict.{Accepted}
 use Rattle.ibft_table_laws.proofs.RecordLaws.{index_listed}
 use Rattle.record_text.specs.Fields.{first_structure, first_indexed, kind_count, group_of, is_text, field_of, field_count, name_of}
 use Rattle.record_text.specs.Value.{modes, chap_types, value_text, field_text}
@@ -44,7 +44,7 @@ use Rattle.record_text.specs.Enter.{has_slot, field_step, says_nothing, line_fou
 use Rattle.record_text.specs.Tell.{slot_in, kind_number, index_held, record_field, line_with}
 use Rattle.record_text.specs.Promises.{Bytes}
 use Rattle.record_text.specs.declared.fields.FieldName.{FieldName}
-use Rattle.record_text.specs.declared.fields.Found.TheVariants.{Named}
+use Rattle.std.specs.Prelude.{Some}
 use Rattle.record_text.specs.declared.fields.Notation.{Notation}
 use Rattle.record_text.specs.declared.fields.Notation.TheVariants.{Oem, Mode, Flags, Number, Port, Address, Mac, Pci, Chap, Text}
 use Rattle.record_text_laws.proofs.Entered.{name_in}
@@ -160,7 +160,7 @@ unfolding is_blank
 blank = refl
 
 module _ (t : List ℕ) (ok : check_of t ≡ Accepted) (small : Bytes t) (g n : ℕ) (group : g < group_count) (number : n < field_count (kind_number g))
-    (bytes : List ℕ) (told : record_field (record_of t) g n ≡ some bytes) where
+    (bytes : List ℕ) (told : record_field (record_of t) g n ≡ Some bytes) where
   abbrev kind : ℕ
   kind = kind_number g
 
@@ -206,13 +206,13 @@ module _ (t : List ℕ) (ok : check_of t ≡ Accepted) (small : Bytes t) (g n : 
       (ne_eqb (length line) 0 (omega (arith, name.some, length-append own (code " " ∷ text))))
       (ap (λ (b : ℕ). eqb b (code "#")) front ∙ name.plain)
 
-  pub told-line-found : line_found line ≡ Named (name_in (record_of t) g n)
+  pub told-line-found : line_found line ≡ Some (name_in (record_of t) g n)
   unfolding line_found
   told-line-found =
       rw (line-whole, line-says, field-line own (code " ") text name.whole blank, name.named)
 
   module _ (d : Draft) where
-    told-line-read : line_step d line ≡ field_step d text (Named (name_in (record_of t) g n))
+    told-line-read : line_step d line ≡ field_step d text (Some (name_in (record_of t) g n))
     unfolding line_step
     told-line-read =
         let rest = value_line own (code " ") text name.whole blank ∙ value.whole in

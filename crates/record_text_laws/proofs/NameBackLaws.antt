@@ -7,7 +7,6 @@
 use mathlib.Core.Path.{◌≡◌, refl, sym, ap, ◌∙◌}
 use mathlib.Core.List.{List, [], ◌∷◌, ◌++◌, append-nil, append_assoc}
 use mathlib.Core.Bool.{Bool, true, false, cond, not, ◌&&◌}
-use mathlib.Core.Option.{some}
 use Prim.Native.Char.{code}
 use Prim.Native.Nat.{ℕ, suc, ◌+◌, ◌%◌, ◌<◌}
 use native.Mathlib.Decide.{dec_lt}
@@ -32,7 +31,7 @@ use Rattle.notation.proofs.LineLaws.{number-lacks}
 use Rattle.record_text.specs.Fields.{first_indexed, kind_count, group_names, group_of, field_count, index_text, dotted, name_of, index_in, is_digit}
 use Rattle.record_text.specs.Fields.{found, found_in, field_named}
 use Rattle.record_text.specs.Computing.{computing}
-use Rattle.record_text.specs.declared.fields.Found.TheVariants.{Named}
+use Rattle.std.specs.Prelude.{Some, Some}
 use Rattle.record_text.proofs.ValueLaws.{each_at}
 
 -- ---- digits
@@ -137,7 +136,7 @@ pub record Indexed (kind index : ℕ) : Type 0 where
   pub absent : kind < first_indexed → index ≡ 0
 
 pub record NameFacts (kind index n : ℕ) : Type 0 where
-  pub named : field_named (name_of kind index n) ≡ Named (record { kind = kind; index = index; field = n })
+  pub named : field_named (name_of kind index n) ≡ Some (record { kind = kind; index = index; field = n })
   pub some : 0 < length (name_of kind index n)
   pub whole : lacks is_blank (name_of kind index n) ≡ true
   pub line : lacks (is 10) (name_of kind index n) ≡ true
@@ -178,7 +177,7 @@ module _ (kind index n : ℕ) (known : kind < kind_count) (indexed : Indexed kin
           starts (x ∷ xs) e = rw e
 
   -- the Index is read back
-  index_back : index_in kind behind ≡ some index
+  index_back : index_in kind behind ≡ Some index
   unfolding index_in index_text
   index_back =
       elim (dec_lt kind first_indexed) [
@@ -186,7 +185,7 @@ module _ (kind index n : ℕ) (known : kind < kind_count) (indexed : Indexed kin
         | no h ↦ rw (le-ltb kind first_indexed (omega arith), number_up_to-digits 255 index (omega (arith, indexed.byte-sized)), same_refl)
       ]
 
-  pub group-found : found_in (word ++ behind) own ≡ Named (record { kind = kind; index = index; field = n })
+  pub group-found : found_in (word ++ behind) own ≡ Some (record { kind = kind; index = index; field = n })
   unfolding found_in found
   group-found =
       let few : n < word_count (group_of kind).names = omega (arith, names.many) in

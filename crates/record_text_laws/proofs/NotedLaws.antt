@@ -11,7 +11,6 @@ use mathlib.Core.Path.{◌≡◌, refl, sym, ap, ◌∙◌}
 use mathlib.Core.Logic.{◌⊎◌, inl, inr, ⊎_elim}
 use mathlib.Core.List.{List, [], ◌∷◌}
 use mathlib.Core.Bool.{Bool, true, false, cond}
-use mathlib.Core.Option.{Option, none, some}
 use Prim.Native.Nat.{ℕ, zero, suc, ◌+◌, ◌-◌, ◌*◌, ◌≤◌, ◌<◌}
 use native.Mathlib.Decide.{dec_lt}
 use native.Mathlib.Omega.{arith}
@@ -29,7 +28,7 @@ use Rattle.ibft_layout.specs.Layout.{Kind, initiator, nic, target, slot_count, l
 use Rattle.ibft_table.specs.Table.{starts_of, index_in, present}
 use Rattle.ibft_table.specs.Check.{check_of}
 use Rattle.ibft_table.specs.Record.{Record, record_of}
-use Rattle.table_header.specs.declared.verdict.Verdict.TheVariants.{Accepted}
+use Rattle.table_header.specs.Verdict.{Accepted}
 use Rattle.ibft_build_rules.specs.Plan.{is_present}
 use Rattle.record_text.specs.Fields.{first_structure, first_indexed, kind_count, field_count}
 use Rattle.record_text.specs.Enter.{index_count, index_mark, is_marked, marks_below, marks_of, extras_of, most_of, says_nothing, noted, lines_noted}
@@ -37,7 +36,7 @@ use Rattle.record_text.specs.Enter.{named_marks, none_noted, slot_of, group_coun
 use Rattle.record_text.specs.Tell.{slot_in, kind_number, index_held, record_field, is_told, line_with, line_of, group_text, record_text}
 use Rattle.record_text.specs.Promises.{Bytes}
 use Rattle.record_text.specs.declared.fields.FieldName.{FieldName}
-use Rattle.record_text.specs.declared.fields.Found.TheVariants.{Named}
+use Rattle.std.specs.Prelude.{Some, Option, None, Some}
 use Rattle.record_text_laws.proofs.Entered.{name_in, Held, Seats}
 use Rattle.record_text_laws.proofs.LeadsLaws.{Leads, leads-none, leads-line, leads-gather, leads-end}
 use Rattle.record_text_laws.proofs.MarksLaws.{marked, marked-in, marked-each, marks-below, marks-all, write-mark, write-other}
@@ -111,8 +110,8 @@ none-marked kind h j l =
 
 -- the marks with those of a field's line, where it is told; of the first n fields of group g, and of the first g groups
 unfoldable pub noted_with : List ℕ → FieldName → Option (List ℕ) → List ℕ
-noted_with marks f none = marks
-noted_with marks f (some bytes) = cond (is_told f.kind f.field bytes) (noted marks (Named f)) marks
+noted_with marks f None = marks
+noted_with marks f (Some bytes) = cond (is_told f.kind f.field bytes) (noted marks (Some f)) marks
 
 unfoldable pub fields_noted : Record → ℕ → ℕ → List ℕ → List ℕ
 fields_noted r g zero marks = marks
@@ -242,7 +241,7 @@ module _ (t : List ℕ) (ok : check_of t ≡ Accepted) (small : Bytes t) where
               absurd (omega (arith, less, all, held-most t ok kind s, leb-true most_of (marks_of marks kind) full))
 
     -- a line marks its group
-    noted-line : (first_structure ≤ g → Held r g) → Noted g (suc n) (noted marks (Named f))
+    noted-line : (first_structure ≤ g → Held r g) → Noted g (suc n) (noted marks (Some f))
     unfolding noted
     noted-line held =
         elim (dec_lt kind first_indexed) [
@@ -275,16 +274,16 @@ module _ (t : List ℕ) (ok : check_of t ≡ Accepted) (small : Bytes t) where
     field-noted = go (record_field r g n) refl
       where
         go : (o : Option (List ℕ)) → record_field r g n ≡ o → Notes o
-        go none e =
+        go None e =
             (leads-none run marks, noted-untold (λ first known held. flags-some r g (structured g known) held (rw first at e)))
-        go (some bytes) e = told (is_told kind n bytes) refl
+        go (Some bytes) e = told (is_told kind n bytes) refl
           where
             told : (b : Bool) → is_told kind n bytes ≡ b
-                → Leads run marks (cond b (line_with kind index n bytes) []) (cond b (noted marks (Named f)) marks)
-                × Noted g (suc n) (cond b (noted marks (Named f)) marks)
+                → Leads run marks (cond b (line_with kind index n bytes) []) (cond b (noted marks (Some f)) marks)
+                × Noted g (suc n) (cond b (noted marks (Some f)) marks)
             told true s = (
               rw (told_with t ok small g n group number bytes e)
-                  (leads-line run marks (noted marks (Named f)) _ (told_line t ok small g n group number bytes e)
+                  (leads-line run marks (noted marks (Some f)) _ (told_line t ok small g n group number bytes e)
                   (λ k ls. rw (told-line-found t ok small g n group number bytes e))),
               noted-line (told-held t ok small g n group number bytes e),
             )
@@ -308,7 +307,7 @@ module _ (t : List ℕ) (ok : check_of t ≡ Accepted) (small : Bytes t) where
     group-ready : Noted (suc g) 0 (fields_noted r g (field_count (kind_number g)) marks)
     group-ready =
         let last = fields-ready (field_count (kind_number g)) (omega arith) in
-        let some = (fields-few (kind_number g) (group-known g)).0 in
+        let few = (fields-few (kind_number g) (group-known g)).0 in
         record { size = last.size; only = last.only; named = last.named; all = λ h l low. last.all h l (omega arith) }
 
   module _ (marks : List ℕ) (before : Noted 0 0 marks) where
@@ -392,9 +391,9 @@ module _ (t : List ℕ) (ok : check_of t ≡ Accepted) (small : Bytes t) where
         count_same index_count (is_marked marks kind) (ranked kind) marks-are
         ∙ marks-all (index_by t kind) (held_by t kind) (rank_up t ok kind slots) index_count (λ q h. rank-small t small kind q)
 
-    extras-counted : extras_of marks kind ≡ count extra_most (λ (i : ℕ). is_present (get_or r.structures (first_by kind + i) none))
+    extras-counted : extras_of marks kind ≡ count extra_most (λ (i : ℕ). is_present (get_or r.structures (first_by kind + i) None))
     extras-counted =
-        let same = count_same extra_most (λ (i : ℕ). is_present (get_or r.structures (first_by kind + i) none)) (λ (i : ℕ). present t (first_by kind + i))
+        let same = count_same extra_most (λ (i : ℕ). is_present (get_or r.structures (first_by kind + i) None)) (λ (i : ℕ). present t (first_by kind + i))
         (λ i h. held-present t (first_by kind + i) (omega (arith, slots.extras.high))) in
         omega (arith, marks-held, same)
 

@@ -20,7 +20,7 @@ use Rattle.octets.proofs.ReadLaws.{part_length, part_at, bytes-elements, bytes-p
 use Rattle.ibft_layout.specs.Layout.{kind_of, flags_at, slot_count, entry_count, named_count, named_entries, owner_of, string_of, first_entry}
 use Rattle.ibft_table.specs.Table.{start_of, present, size_of, offset_of, holds_entry}
 use Rattle.ibft_table.specs.Record.{record_of}
-use Rattle.table_header.specs.declared.verdict.Verdict.TheVariants.{Accepted}
+use Rattle.table_header.specs.Verdict.{Accepted}
 use Rattle.ibft_layout.proofs.LayoutLaws.{owner-named}
 use Rattle.ibft_table_laws.proofs.LayoutLaws.{entry-fits, slot-entry-owner}
 use Rattle.ibft_table_laws.proofs.TableLaws.{present-below, length-le, entry-owner-on, entry_kept}

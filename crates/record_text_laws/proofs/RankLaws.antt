@@ -20,7 +20,7 @@ use Rattle.ibft_layout.specs.Layout.{Kind, nic, target, slot_count, named_count,
 use Rattle.ibft_layout.specs.Layout.{index_of, nic_slot, target_slot}
 use Rattle.ibft_table.specs.Table.{starts_of, index_in, present}
 use Rattle.ibft_table.specs.Check.{check_of}
-use Rattle.table_header.specs.declared.verdict.Verdict.TheVariants.{Accepted}
+use Rattle.table_header.specs.Verdict.{Accepted}
 use Rattle.ibft_table_laws.specs.Facts.{Facts}
 use Rattle.ibft_table_laws.proofs.AcceptedLaws.{accepted-facts}
 use Rattle.ibft_table_laws.proofs.NumberingLaws.{ExtrasOf, nic-extras, target-extras, extras-most, extras-are, index-least, index-up}

@@ -10,7 +10,7 @@ use Rattle.text.specs.Split.{pieces}
 use Rattle.ibft_layout.specs.Layout.{entry_count}
 use Rattle.ibft_table.specs.Check.{check_of}
 use Rattle.ibft_table.specs.Record.{record_of}
-use Rattle.table_header.specs.declared.verdict.Verdict.TheVariants.{Accepted}
+use Rattle.table_header.specs.Verdict.{Accepted}
 use Rattle.record_text.specs.Enter.{lines_noted, none_noted, group_count, blank_draft, no_field, entered_from}
 use Rattle.record_text.specs.Tell.{record_text, if_accepted, table_text}
 use Rattle.record_text.specs.Promises.{Bytes}

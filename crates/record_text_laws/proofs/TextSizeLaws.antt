@@ -6,10 +6,10 @@
 --     line-short          a line
 --     text-fits           the text of an accepted table
 -- Assumes nothing.
+use Rattle.std.specs.Prelude.{Option, None, Some}
 use mathlib.Core.Path.{◌≡◌, refl, sym, ap, ◌∙◌}
 use mathlib.Core.List.{List, [], ◌∷◌, ◌++◌}
 use mathlib.Core.Bool.{Bool, true, false, cond, not}
-use mathlib.Core.Option.{Option, none, some}
 use Prim.Native.Char.{code}
 use Prim.Native.Nat.{ℕ, zero, suc, ◌+◌, ◌*◌, ◌^◌, ◌≤◌, ◌<◌}
 use native.Mathlib.Nat.{zero-add}
@@ -35,7 +35,7 @@ use Rattle.notation.proofs.AddressLaws.{text-length as address-length}
 use Rattle.notation.proofs.EscapeLaws.{text-length as string-length}
 use Rattle.ibft_table.specs.Check.{check_of}
 use Rattle.ibft_table.specs.Record.{record_of}
-use Rattle.table_header.specs.declared.verdict.Verdict.TheVariants.{Accepted}
+use Rattle.table_header.specs.Verdict.{Accepted}
 use Rattle.record_text.specs.Fields.{Group, oem, groups, group_names, first_indexed, group_of, is_text, is_oem, field_of, field_count, index_text, dotted, name_of}
 use Rattle.record_text.specs.Value.{modes, chap_types, fits, value_text, field_text}
 use Rattle.record_text.specs.Enter.{group_count}
@@ -189,7 +189,7 @@ module _ (t : List ℕ) (ok : check_of t ≡ Accepted) (small : Bytes t) (g n : 
   abbrev index : ℕ
   index = index_held (record_of t) g
 
-  text-short : (bytes : List ℕ) → record_field (record_of t) g n ≡ some bytes → length (field_text kind n bytes) ≤ text_most (field_of kind n).notation
+  text-short : (bytes : List ℕ) → record_field (record_of t) g n ≡ Some bytes → length (field_text kind n bytes) ≤ text_most (field_of kind n).notation
   unfolding text_most length_held
   text-short bytes told = go (is_text (field_of kind n).notation) refl
     where
@@ -203,7 +203,7 @@ module _ (t : List ℕ) (ok : check_of t ≡ Accepted) (small : Bytes t) (g n : 
           (field-width kind n (field_text kind n bytes) bytes (told-value t ok small g n group number bytes told e))
           (told-small t ok small g n group number bytes told e) (told-said t ok small g n group number bytes told e)
 
-  with-short : (bytes : List ℕ) → record_field (record_of t) g n ≡ some bytes → length (line_with kind index n bytes) ≤ line_most kind n
+  with-short : (bytes : List ℕ) → record_field (record_of t) g n ≡ Some bytes → length (line_with kind index n bytes) ≤ line_most kind n
   unfolding line_with line_most
   with-short bytes told =
       let own = name_of kind index n in
@@ -221,8 +221,8 @@ module _ (t : List ℕ) (ok : check_of t ≡ Accepted) (small : Bytes t) (g n : 
   line-short = go (record_field (record_of t) g n) refl
     where
       go : (o : Option (List ℕ)) → record_field (record_of t) g n ≡ o → length (line_of false kind index n o) ≤ line_most kind n
-      go none told = omega arith
-      go (some bytes) told = shown (is_told kind n bytes)
+      go None told = omega arith
+      go (Some bytes) told = shown (is_told kind n bytes)
         where
           shown : (b : Bool) → length (cond b (line_with kind index n bytes) []) ≤ line_most kind n
           shown true = with-short bytes told

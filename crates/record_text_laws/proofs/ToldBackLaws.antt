@@ -13,10 +13,10 @@
 --     told-string     so it is of a string
 --     told-entry      which is one of the entries
 -- Assumes nothing.
+use Rattle.std.specs.Prelude.{Option, None, Some, option_map}
 use mathlib.Core.Path.{◌≡◌, refl, sym, ap, ◌∙◌}
 use mathlib.Core.List.{List, [], ◌∷◌}
 use mathlib.Core.Bool.{Bool, true, false, not, ◌&&◌, ◌||◌}
-use mathlib.Core.Option.{Option, none, some, map}
 use Prim.Native.Nat.{ℕ, zero, suc, ◌+◌, ◌*◌, ◌-◌, ◌^◌, ◌/◌, ◌≤◌, ◌<◌}
 use native.Mathlib.Nat.{div-add-mod', mod-lt}
 use native.Mathlib.Decide.{dec_lt}
@@ -42,7 +42,7 @@ use Rattle.ibft_table.specs.Table.{start_of, present, end_in, offset_of, size_of
 use Rattle.table_header.specs.Header.{padded}
 use Rattle.ibft_table.specs.Check.{check_of}
 use Rattle.ibft_table.specs.Record.{Record, record_of, listed, content_in, content_of, body_size, shown_if}
-use Rattle.table_header.specs.declared.verdict.Verdict.TheVariants.{Accepted}
+use Rattle.table_header.specs.Verdict.{Accepted}
 use Rattle.ibft_table_laws.specs.Facts.{SlotFacts}
 use Rattle.ibft_table_laws.proofs.AcceptedLaws.{accepted-facts}
 use Rattle.ibft_table_laws.proofs.LayoutLaws.{slot-fits, entry-fits, slot-entry, slot-entry-owner}
@@ -66,10 +66,10 @@ part_small : (t : List ℕ) (start size : ℕ) → Bytes t → Bytes (part t sta
 unfolding part
 part_small t start size h = take-small (drop start t) size (λ i. omega (arith, get_or-drop start t i 0, h (start + i)))
 
-same_bytes : (a b : List ℕ) → some a ≡ some b → a ≡ b
+same_bytes : (a b : List ℕ) → Some a ≡ Some b → a ≡ b
 same_bytes a b e = cc
 
-mapped-shown : (f : List ℕ → List ℕ) (b : Bool) (x bytes : List ℕ) → map f (shown_if b x) ≡ some bytes → (b ≡ true) × (f x ≡ bytes)
+mapped-shown : (f : List ℕ → List ℕ) (b : Bool) (x bytes : List ℕ) → option_map f (shown_if b x) ≡ Some bytes → (b ≡ true) × (f x ≡ bytes)
 mapped-shown f true x bytes e = (refl, same_bytes (f x) bytes e)
 mapped-shown f false x bytes e = absurd (let z : ◌≡◌ {A = ℕ} 0 1 = cc in omega arith)
 
@@ -193,29 +193,29 @@ unfolding record_field
 structure-field r g n h = rw (ne_eqb g 0 (omega arith), ne_eqb g 1 (omega arith))
 
 pub text-entry : (r : Record) (g n : ℕ) → is_text (field_of (kind_number g) n).notation ≡ true
-    → record_field r g n ≡ get_or r.entries (first_entry (slot_in g) + (n - plain_count (kind_number g))) none
+    → record_field r g n ≡ get_or r.entries (first_entry (slot_in g) + (n - plain_count (kind_number g))) None
 unfolding structure_field
 text-entry r g n text = structure-field r g n (text-from g n text) ∙ rw text
 
 -- how many bytes a string has, none where it is missing; no entry of an accepted table has more than 255
 unfoldable pub length_held : Option (List ℕ) → ℕ
-length_held none = 0
-length_held (some bytes) = length bytes
+length_held None = 0
+length_held (Some bytes) = length bytes
 
-pub entry-short : (t : List ℕ) → check_of t ≡ Accepted → (e : ℕ) → e < entry_count → length_held (get_or (record_of t).entries e none) ≤ 255
+pub entry-short : (t : List ℕ) → check_of t ≡ Accepted → (e : ℕ) → e < entry_count → length_held (get_or (record_of t).entries e None) ≤ 255
 unfolding length_held record_of
-entry-short t ok e h = go (get_or (record_of t).entries e none) refl
+entry-short t ok e h = go (get_or (record_of t).entries e None) refl
   where
-    go : (o : Option (List ℕ)) → get_or (record_of t).entries e none ≡ o → length_held o ≤ 255
-    go none held = omega arith
-    go (some bytes) held =
+    go : (o : Option (List ℕ)) → get_or (record_of t).entries e None ≡ o → length_held o ≤ 255
+    go None held = omega arith
+    go (Some bytes) held =
         let is = table-entry-some t e bytes (sym (entry_listed (content_of t) e h) ∙ held) in
         let kept = entry_kept t ok e h is.0 in
         omega (arith, ap length is.1, entry_length t ok e h is.0, kept.longest, (entry-fits e h).longest)
 
 -- ---- what is present
 
-pub held-present : (t : List ℕ) (k : ℕ) → k < slot_count → is_present (get_or (record_of t).structures k none) ≡ present t k
+pub held-present : (t : List ℕ) (k : ℕ) → k < slot_count → is_present (get_or (record_of t).structures k None) ≡ present t k
 unfolding record_of content_of content_in is_present
 held-present t k h = ap is_present (structure-listed (content_of t) k h) ∙ go (present t k) (part t (start_of t k + flags_at) (body_size (kind_of k)))
   where
@@ -228,15 +228,15 @@ pub flags-told : (g : ℕ) → first_structure ≤ g → (bytes : List ℕ) → 
 unfolding is_told
 flags-told g h bytes = rw (slot-kind g h, (kind-facts (slot_in g)).plain, (kind-facts (slot_in g)).always)
 
-pub flags-some : (r : Record) (g : ℕ) → first_structure ≤ g → Held r g → record_field r g 0 ≡ none → ⊥
+pub flags-some : (r : Record) (g : ℕ) → first_structure ≤ g → Held r g → record_field r g 0 ≡ None → ⊥
 unfolding structure_field is_present
 flags-some r g h held e =
     let plain : is_text (field_of (kind_number g) 0).notation ≡ false = rw (slot-kind g h) (kind-facts (slot_in g)).plain in
-    go (get_or r.structures (slot_in g) none) held (rw plain at (sym (structure-field r g 0 h) ∙ e))
+    go (get_or r.structures (slot_in g) None) held (rw plain at (sym (structure-field r g 0 h) ∙ e))
   where
-    go : (o : Option (List ℕ)) → is_present o ≡ true → map (within (field_of (kind_number g) 0)) o ≡ none → ⊥
-    go none on e = clash on refl
-    go (some bytes) on e = let z : ◌≡◌ {A = ℕ} 0 1 = cc in omega arith
+    go : (o : Option (List ℕ)) → is_present o ≡ true → option_map (within (field_of (kind_number g) 0)) o ≡ None → ⊥
+    go None on e = clash on refl
+    go (Some bytes) on e = let z : ◌≡◌ {A = ℕ} 0 1 = cc in omega arith
 
 -- ---- what the check settles of flags and CHAP types
 
@@ -338,7 +338,7 @@ text-is flags Text bytes e = refl
 -- ---- the value of a field, read back
 
 module _ (t : List ℕ) (ok : check_of t ≡ Accepted) (small : Bytes t) (g n : ℕ) (group : g < group_count) (number : n < field_count (kind_number g))
-    (bytes : List ℕ) (told : record_field (record_of t) g n ≡ some bytes) where
+    (bytes : List ℕ) (told : record_field (record_of t) g n ≡ Some bytes) where
   abbrev kind : ℕ
   kind = kind_number g
 
@@ -420,7 +420,7 @@ module _ (t : List ℕ) (ok : check_of t ≡ Accepted) (small : Bytes t) (g n : 
     is : kind ≡ id
     is = slot-kind g from
 
-    shown : structure_field (record_of t) slot kind n ≡ some bytes
+    shown : structure_field (record_of t) slot kind n ≡ Some bytes
     shown = sym (structure-field (record_of t) g n from) ∙ told
 
     module _ (plain : is_text (field_of kind n).notation ≡ false) where
@@ -428,7 +428,7 @@ module _ (t : List ℕ) (ok : check_of t ≡ Accepted) (small : Bytes t) (g n : 
       unfolding structure_field record_of content_of content_in
       here =
           mapped-shown (within (field_of kind n)) (present t slot) (part t (start_of t slot + flags_at) (body_size (kind_of slot))) bytes
-          (ap (map (within (field_of kind n))) (sym (structure-listed (content_of t) slot below)) ∙ (rw plain at shown))
+          (ap (option_map (within (field_of kind n))) (sym (structure-listed (content_of t) slot below)) ∙ (rw plain at shown))
 
       abbrev facts : SlotFacts t slot
       facts = slot_kept t ok slot below here.0
@@ -497,7 +497,7 @@ module _ (t : List ℕ) (ok : check_of t ≡ Accepted) (small : Bytes t) (g n : 
       string-owner =
           ap (present t) (sym (slot-entry-owner slot (n - plain_count kind) below string-high)) ∙ entry-owner-on t entry string-is.0
 
-      string_bytes : string_of (field_text kind n bytes) ≡ some bytes
+      string_bytes : string_of (field_text kind n bytes) ≡ Some bytes
       string_bytes =
           ap string_of (text-is (group_of kind).flags (field_of kind n).notation bytes text)
           ∙ string-back bytes (rw string-is.1 at (part_small t (offset_of t entry) (size_of t entry) small))
@@ -532,14 +532,14 @@ module _ (t : List ℕ) (ok : check_of t ≡ Accepted) (small : Bytes t) (g n : 
   told-small plain = let s = stands plain in rw s.are (part_small t s.start (field_of kind n).width small)
 
   -- the text of a field that is no string, read, is its bytes
-  pub told-value : is_text (field_of kind n).notation ≡ false → field_bytes kind n (field_text kind n bytes) ≡ some bytes
+  pub told-value : is_text (field_of kind n).notation ≡ false → field_bytes kind n (field_text kind n bytes) ≡ Some bytes
   told-value plain =
       let s = stands plain in
       field_back kind n bytes (ap length s.are ∙ part_length t s.start (field_of kind n).width s.lies)
       (told-small plain) s.said
 
   -- .. of a string
-  pub told-string : is_text (field_of kind n).notation ≡ true → string_of (field_text kind n bytes) ≡ some bytes
+  pub told-string : is_text (field_of kind n).notation ≡ true → string_of (field_text kind n bytes) ≡ Some bytes
   told-string text = string_bytes (text-from g n text) text
 
   -- .. and it is one of the entries

@@ -5,10 +5,10 @@
 --     value-back      the text of a value, read, is its bytes
 --     field_back      .. of a field
 -- Assumes nothing.
+use Rattle.std.specs.Prelude.{Some, option_map}
 use mathlib.Core.Path.{◌≡◌, refl, sym, ap, ◌∙◌}
 use mathlib.Core.List.{List, [], ◌∷◌, ◌++◌}
-use mathlib.Core.Bool.{Bool, true, false, cond, ◌||◌}
-use mathlib.Core.Option.{some, map}
+use mathlib.Core.Bool.{Bool, true, false, cond}
 use Prim.Native.Nat.{ℕ, zero, suc, ◌-◌, ◌^◌, ◌≤◌, ◌<◌}
 use native.Mathlib.Nat.{zero-add}
 use native.Mathlib.Omega.{arith}
@@ -34,7 +34,9 @@ use Rattle.notation.specs.Escape.{string_of}
 use Rattle.notation.proofs.EscapeLaws.{string-back}
 use Rattle.table_header.specs.Header.{padded}
 use Rattle.record_text.specs.Fields.{group_of, field_of}
-use Rattle.record_text.specs.Value.{modes, chap_types, word_byte, set_byte, filled, number_bytes, value_bytes, fits, field_bytes, oem_text, value_text, field_text}
+use Rattle.notation.specs.Value.{filled, is_width, number_bytes}
+use Rattle.notation.proofs.ValueLaws.{width-cases}
+use Rattle.record_text.specs.Value.{modes, chap_types, word_byte, set_byte, value_bytes, fits, field_bytes, oem_text, value_text, field_text}
 use Rattle.record_text.specs.Promises.{Bytes}
 use Rattle.record_text.specs.declared.fields.Notation.{Notation}
 use Rattle.record_text.specs.declared.fields.Notation.TheVariants.{Oem, Mode, Flags, Number, Port, Address, Mac, Pci, Chap, Text}
@@ -45,14 +47,14 @@ use Rattle.record_text.proofs.ValueLaws.{field_fits}
 listed : (bytes : List ℕ) (n : ℕ) → length bytes ≡ n → bytes ≡ bytes_at bytes 0 n
 listed bytes n e = bytes-elements bytes bytes 0 n e (λ j h. ap (byte bytes) (sym (zero-add j)))
 
-one : (bytes : List ℕ) → length bytes ≡ 1 → some (byte bytes 0 ∷ []) ≡ some bytes
+one : (bytes : List ℕ) → length bytes ≡ 1 → Some (byte bytes 0 ∷ []) ≡ Some bytes
 unfolding bytes_past
-one bytes e = ap some (sym (listed bytes 1 e))
+one bytes e = ap Some (sym (listed bytes 1 e))
 
 -- ---- words
 
 word_back : (list bytes : List ℕ) → distinct (words_of list) ≡ true → byte bytes 0 < word_count list → length bytes ≡ 1
-    → word_byte list (word_at list (byte bytes 0)) ≡ some bytes
+    → word_byte list (word_at list (byte bytes 0)) ≡ Some bytes
 unfolding word_byte
 word_back list bytes other h e =
     rw (number_at list (byte bytes 0) other h, lt-ltb (byte bytes 0) (word_count list) h) (one bytes e)
@@ -66,7 +68,7 @@ unfolding computing
 types-distinct = refl
 
 flags-back : (flags bytes : List ℕ) → good_list flags ≡ true → byte bytes 0 < 2 ^ word_count flags → length bytes ≡ 1
-    → set_byte (read_word_set flags (word_set_text flags (byte bytes 0))) ≡ some bytes
+    → set_byte (read_word_set flags (word_set_text flags (byte bytes 0))) ≡ Some bytes
 flags-back flags bytes good h e = ap set_byte (set_back flags (byte bytes 0) good h) ∙ one bytes e
 
 -- ---- numbers
@@ -74,13 +76,13 @@ flags-back flags bytes good h e = ap set_byte (set_back flags (byte bytes 0) goo
 module _ (bytes : List ℕ) (small : Bytes bytes) where
   -- a number of so many bytes
   abbrev Back : ℕ → Type 0
-  Back width = length bytes ≡ width → number_bytes width (digits 10 (word64 bytes 0)) ≡ some bytes
+  Back width = length bytes ≡ width → number_bytes width (digits 10 (word64 bytes 0)) ≡ Some bytes
 
   back-with : (width : ℕ) → word64 bytes 0 ≤ 256 ^ width - 1 → take width (le64 (word64 bytes 0)) ≡ bytes
-      → number_bytes width (digits 10 (word64 bytes 0)) ≡ some bytes
+      → number_bytes width (digits 10 (word64 bytes 0)) ≡ Some bytes
   unfolding number_bytes
   back-with width h e =
-      ap (map (λ (n : ℕ). take width (le64 n))) (number_up_to-digits (256 ^ width - 1) (word64 bytes 0) h) ∙ ap some e
+      ap (option_map (λ (n : ℕ). take width (le64 n))) (number_up_to-digits (256 ^ width - 1) (word64 bytes 0) h) ∙ ap Some e
 
   front : (width : ℕ) → take width (le64 (word64 bytes 0))
       ≡ take width ((two bytes small 0 ++ two bytes small 2) ++ (two bytes small 4 ++ two bytes small 6))
@@ -133,20 +135,14 @@ module _ (bytes : List ℕ) (small : Bytes bytes) where
   at_width : (k width : ℕ) → width ≡ k → Back k → Back width
   at_width k width e b = rw e b
 
-  number-back : (width : ℕ) → fits Number width ≡ true → Back width
-  unfolding fits
-  number-back width f = go (eqb width 1) refl (eqb width 2) refl f
-    where
-      go : (x : Bool) → eqb width 1 ≡ x → (y : Bool) → eqb width 2 ≡ y → (x || y || eqb width 8) ≡ true → Back width
-      go true a y b h = at_width 1 width (eqb-true width 1 a) back_one
-      go false a true b h = at_width 2 width (eqb-true width 2 b) back-two
-      go false a false b h = at_width 8 width (eqb-true width 8 h) back-eight
+  number-back : (width : ℕ) → is_width width ≡ true → Back width
+  number-back width f = width-cases Back width f back_one back-two back-eight
 
-  pci-bytes : length bytes ≡ 2 → map le16 (read_pci (pci_text (word16 bytes 0))) ≡ some bytes
+  pci-bytes : length bytes ≡ 2 → option_map le16 (read_pci (pci_text (word16 bytes 0))) ≡ Some bytes
   unfolding two bytes_past
   pci-bytes e =
       let low : word16 bytes 0 < 65536 = omega (arith, small 0, small 1) in
-      ap (map le16) (pci-back (word16 bytes 0) low) ∙ ap some (le16-word bytes small 0 ∙ sym (listed bytes 2 e))
+      ap (option_map le16) (pci-back (word16 bytes 0) low) ∙ ap Some (le16-word bytes small 0 ∙ sym (listed bytes 2 e))
 
 -- ---- OEM fields
 
@@ -199,7 +195,7 @@ index-most (b ∷ t) = go (eqb b 0) (index-most t)
     go false rest = omega arith
 
 oem-back : (width : ℕ) (bytes : List ℕ) → padded bytes ≡ true → length bytes ≡ width → Bytes bytes
-    → filled width (string_of (oem_text bytes)) ≡ some bytes
+    → filled width (string_of (oem_text bytes)) ≡ Some bytes
 oem-back width bytes pad e small =
     let string = take (index_of 0 bytes) bytes in
     let within : length string ≤ width = omega (arith, index-within bytes, index-most bytes, e) in
@@ -227,7 +223,7 @@ sized : (width k : ℕ) (bytes : List ℕ) → eqb width k ≡ true → length b
 sized width k bytes f e = e ∙ eqb-true width k f
 
 pub value-back : (flags : List ℕ) (notation : Notation) (width : ℕ) (bytes : List ℕ) → fits notation width ≡ true → length bytes ≡ width → Bytes bytes
-    → Said flags notation bytes → value_bytes flags notation width (value_text flags notation bytes) ≡ some bytes
+    → Said flags notation bytes → value_bytes flags notation width (value_text flags notation bytes) ≡ Some bytes
 unfolding value_bytes value_text fits
 value-back flags Oem width bytes f e small said = oem-back width bytes said e small
 value-back flags Mode width bytes f e small said = word_back modes bytes modes-distinct said (sized width 1 bytes f e)
@@ -244,6 +240,6 @@ value-back flags Text width bytes f e small said = absurd said
 
 -- the text of a field, read, is its bytes
 pub field_back : (kind n : ℕ) (bytes : List ℕ) → length bytes ≡ (field_of kind n).width → Bytes bytes
-    → Said (group_of kind).flags (field_of kind n).notation bytes → field_bytes kind n (field_text kind n bytes) ≡ some bytes
+    → Said (group_of kind).flags (field_of kind n).notation bytes → field_bytes kind n (field_text kind n bytes) ≡ Some bytes
 field_back kind n bytes e small said =
     value-back (group_of kind).flags (field_of kind n).notation (field_of kind n).width bytes (field_fits kind n) e small said

@@ -5,7 +5,7 @@ use mathlib.Core.Path.{◌≡◌}
 use mathlib.Core.List.{List}
 use Prim.Native.Nat.{ℕ}
 use native.Mathlib.Omega.{arith}
-use Rattle.table_header.specs.declared.verdict.Verdict.{Verdict}
+use Rattle.table_header.specs.Verdict.{Verdict}
 use Rattle.table_header.proofs.VerdictLaws.{every-none, every_append, every-gather, every-cond}
 use Rattle.table_header.proofs.JudgesLaws.{test_plain, reserved-plain, judges}
 use Rattle.sbft.specs.Layout.{part_count, absent}

@@ -6,8 +6,7 @@ use Prim.Native.Nat.{ℕ, zero, suc, ◌<◌, ◌^◌}
 use native.Mathlib.Omega.{arith}
 use Rattle.octets.specs.Octets.{byte, bytes_at}
 use Rattle.scan.specs.Scan.{sbft}
-use Rattle.table_header.specs.Verdict.{refusal_of}
-use Rattle.table_header.specs.declared.verdict.Verdict.{Verdict}
+use Rattle.table_header.specs.Verdict.{refusal_of, Verdict}
 use Rattle.table_header.proofs.VerdictLaws.{every-none, every_append, every-gather, every-cond}
 use Rattle.table_header.proofs.PlaceLaws.{Below, AllBelow, test_below, every-header, every-reserved, verdict-below, written_below}
 use Rattle.sbft.specs.Layout.{part_count, part_of, offset_of, absent}

@@ -5,6 +5,7 @@
 --     part-within               a part whose reading is accepted starts within the bytes lent
 --     view-stretch, view-none, view-beyond     what a view shows: of a part, of a refused one, of a number that no part has
 -- Assumes nothing.
+use Rattle.std.specs.Prelude.{Ok, Err}
 use mathlib.Core.Path.{◌≡◌, refl, sym}
 use mathlib.Core.List.{List, [], ◌++◌}
 use mathlib.Core.Bool.{Bool, true, false, cond, ◌||◌}
@@ -17,11 +18,9 @@ use Rattle.octets.specs.Counting.{gather, tabulate}
 use Rattle.octets.specs.Octets.{byte, part, differs}
 use Rattle.octets.proofs.TestLaws.{or-both}
 use Rattle.scan.specs.Scan.{sbft}
-use Rattle.table_header.specs.Verdict.{Test, refuse, first_of, refusal_of, shown}
+use Rattle.table_header.specs.Verdict.{Test, refuse, first_of, refusal_of, shown, Verdict, Accepted}
 use Rattle.table_header.specs.Header.{length_of, header_tests, reserved_tests}
 use Rattle.table_header.specs.declared.verdict.Refusal.{Refusal}
-use Rattle.table_header.specs.declared.verdict.Verdict.{Verdict}
-use Rattle.table_header.specs.declared.verdict.Verdict.TheVariants.{Accepted, Refused}
 use Rattle.table_header.proofs.VerdictLaws.{passes, append-accepted, append-passes, gather-passes, Every, every-none, every-next}
 use Rattle.table_header.proofs.VerdictLaws.{every_append, every-gather, every-cond, every_first}
 use Rattle.sbft.specs.Layout.{part_count, part_of, start_end, ib_reserved, offset_of, absent, end_of}
@@ -62,8 +61,8 @@ module _ (t : List ℕ) where
 
   accepted-by : (k : ℕ) (v : Verdict) → part_verdict t k ≡ v → (refusal_of v).number ≡ 0 → v ≡ Accepted
   unfolding part_verdict refusal_of
-  accepted-by k Accepted e z = refl
-  accepted-by k (Refused r) e z =
+  accepted-by k (Ok u) e z = refl
+  accepted-by k (Err r) e z =
       absurd (omega (arith, every_first (every_append check-numbered (every-next {t = refuse 22 0 (absent t k)} (omega arith) every-none)) r e))
 
   pub part-accepted : (k : ℕ) → part_number t k ≡ 0 → part_verdict t k ≡ Accepted
@@ -116,9 +115,9 @@ module _ (t : List ℕ) (k : ℕ) where
 
   shown-none : (v : Verdict) (b : Bool) (bytes : List ℕ) → ((refusal_of v).number ≡ 0 → ⊥) → cond b (shown v bytes) [] ≡ []
   unfolding shown refusal_of
-  shown-none Accepted b bytes h = absurd (h refl)
-  shown-none (Refused r) true bytes h = refl
-  shown-none (Refused r) false bytes h = refl
+  shown-none (Ok u) b bytes h = absurd (h refl)
+  shown-none (Err r) true bytes h = refl
+  shown-none (Err r) false bytes h = refl
 
   pub view-none : (part_number t k ≡ 0 → ⊥) → part_view_of t k ≡ []
   unfolding part_view_of

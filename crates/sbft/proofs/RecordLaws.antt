@@ -4,8 +4,7 @@ use mathlib.Core.Path.{◌≡◌, refl}
 use mathlib.Core.Bool.{Bool, true, false}
 use mathlib.Core.List.{List, [], ◌∷◌}
 use Prim.Native.Nat.{ℕ}
-use Rattle.table_header.specs.Verdict.{refuse, first_of, refusal_of, shown}
-use Rattle.table_header.specs.declared.verdict.Verdict.TheVariants.{Accepted}
+use Rattle.table_header.specs.Verdict.{refuse, first_of, refusal_of, shown, Accepted}
 use Rattle.table_header.proofs.VerdictLaws.{append-accepted}
 use Rattle.sbft.specs.Layout.{part_of, absent}
 use Rattle.sbft.specs.Check.{check_tests, check_of}

@@ -5,10 +5,10 @@
 --     promise-refused, promise-accepted     what is promised of a write
 --     fits                                  an accepted write has the room that it needs
 -- Assumes nothing.
+use Rattle.std.specs.Prelude.{None, Some}
 use mathlib.Core.Path.{◌≡◌, refl, sym, ap, ap₂, ◌∙◌}
 use mathlib.Core.Bool.{Bool, true, false, cond}
 use mathlib.Core.List.{List, [], ◌∷◌, ◌++◌}
-use mathlib.Core.Option.{none, some}
 use Prim.Native.Nat.{ℕ, ◌+◌, ◌*◌, ◌/◌, ◌%◌, ◌≤◌, ◌<◌}
 use native.Mathlib.Omega.{arith}
 use lib.ListN.{length, take, drop, length-set}
@@ -19,12 +19,10 @@ use Rattle.octets.specs.Promises.{ChecksumByte}
 use Rattle.octets.proofs.LiesLaws.{lies-front, lies-middle, lies-last}
 use Rattle.octets.proofs.ReadLaws.{length-bytes_past, bytes-from}
 use Rattle.scan.specs.Scan.{sbft}
-use Rattle.table_header.specs.Verdict.{first_of}
+use Rattle.table_header.specs.Verdict.{first_of, Verdict, Accepted, Refused}
 use Rattle.table_header.specs.Header.{length_of, padded, header_tests, reserved_tests, headed, sealed}
 use Rattle.table_header.specs.Write.{written_from, room_from}
 use Rattle.table_header.specs.declared.verdict.Refusal.{Refusal}
-use Rattle.table_header.specs.declared.verdict.Verdict.{Verdict}
-use Rattle.table_header.specs.declared.verdict.Verdict.TheVariants.{Accepted, Refused}
 use Rattle.table_header.specs.declared.write.Written.{Written}
 use Rattle.table_header.proofs.VerdictLaws.{accept-none, append-accepted}
 use Rattle.table_header.proofs.HeaderLaws.{reserved-zeros}
@@ -215,13 +213,13 @@ module _ (image rest : List ℕ) where
   absent-back false e = ap (λ (offset : ℕ). eqb offset 0) (ib-at false e)
 
   ib-back : (lacks : Bool) → absent image 2 ≡ lacks
-      → cond (absent table 2) none (some (ib_in (drop (offset_of table 2) table))) ≡ cond (absent image 2) none (some (ib_in (drop (place_of 2) image)))
+      → cond (absent table 2) None (Some (ib_in (drop (offset_of table 2) table))) ≡ cond (absent image 2) None (Some (ib_in (drop (place_of 2) image)))
   unfolding zeros bytes_past place_of part_of
   ib-back true e = rw (absent-back true e, e)
   ib-back false e =
       let bytes : bytes_at (drop 88 table) 0 42 ≡ bytes_at (drop 88 image) 0 42 =
       bytes-from table 88 0 42 ∙ behind-bytes _ _ _ _ _ _ (stands false e) 64 42 (omega (arith, behind-length false image)) ∙ sym (bytes-from image 88 0 42) in
-      rw (absent-back false e, e, ib-at false e) (ap some (ib-same (drop 88 table) (drop 88 image) bytes))
+      rw (absent-back false e, e, ib-at false e) (ap Some (ib-same (drop 88 table) (drop 88 image) bytes))
 
   pub passes : padded (bytes_at image 10 6) ≡ true → padded (bytes_at image 16 8) ≡ true → check_of table ≡ Accepted
   unfolding check_of check_tests

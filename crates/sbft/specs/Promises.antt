@@ -1,13 +1,10 @@
 -- What the check, the view of a part and the write of an s_b_f_t promise. (A reading promises an equation, `r ≡ ib_of t`; a scan
 -- what every scan does, of the family `sbft`.)
-use Rattle.std.specs.Prelude.{◌≡◌, List, [], ℕ, ◌≤◌, ◌<◌, length}
-use Rattle.std.proofs.Math.Option.{Option, none, some}
+use Rattle.std.specs.Prelude.{◌≡◌, List, [], ℕ, ◌≤◌, ◌<◌, length, Option, None, Some}
 use Rattle.std.specs.Borrow.{Bor}
 use Rattle.octets.specs.View.{Shows}
-use Rattle.table_header.specs.Verdict.{refusal, refusal_of}
-use Rattle.table_header.specs.declared.verdict.Verdict.TheVariants.{Accepted}
+use Rattle.table_header.specs.Verdict.{refusal, refusal_of, Accepted, Verdict}
 use Rattle.table_header.specs.Promises.{Judges, Writes}
-use Rattle.table_header.specs.declared.verdict.Verdict.{Verdict}
 use Rattle.table_header.specs.declared.write.Written.{Written}
 use Rattle.sbft.specs.Check.{check_tests, check_of}
 use Rattle.sbft.specs.Layout.{part_count, part_of, offset_of}
@@ -42,8 +39,8 @@ Write image before answer after =
 
 -- the reading of an IB part: its fields, or 22 where it is absent
 abbrev pub ib_read : Option Ib → IbReading
-ib_read none = record { refusal = refusal 22 0; fields = ib_in [] }
-ib_read (some fields) = record { refusal = refusal_of Accepted; fields = fields }
+ib_read None = record { refusal = refusal 22 0; fields = ib_in [] }
+ib_read (Some fields) = record { refusal = refusal_of Accepted; fields = fields }
 
 -- each reading of the table gives its part of what the table means
 pub record Reads (t : List ℕ) : Type 0 where

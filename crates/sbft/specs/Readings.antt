@@ -1,10 +1,8 @@
 -- What an s_b_f_t means, and its readings: the check, then 22 for an IB part that is absent. Assumes nothing: these are
 -- definitions.
-use Rattle.std.specs.Prelude.{ℕ, List, [], ◌∷◌, ◌++◌, cond, drop, ltb}
-use Rattle.std.proofs.Math.Option.{Option, none, some}
+use Rattle.std.specs.Prelude.{ℕ, List, [], ◌∷◌, ◌++◌, cond, drop, ltb, Option, None, Some}
 use Rattle.octets.specs.Octets.{word16, bytes_at, part}
-use Rattle.table_header.specs.Verdict.{refuse, first_of, refusal_of, shown}
-use Rattle.table_header.specs.declared.verdict.Verdict.{Verdict}
+use Rattle.table_header.specs.Verdict.{refuse, first_of, refusal_of, shown, Verdict}
 use Rattle.sbft.specs.Layout.{part_count, part_of, offset_of, absent}
 use Rattle.sbft.specs.Check.{check_tests, check_of}
 use Rattle.sbft.specs.declared.fields.Start.{Start}
@@ -51,7 +49,7 @@ record_at place t =
       start = start_in t;
       scsi = scsi_in (drop (place 0) t);
       srp = srp_in (drop (place 1) t);
-      ib = cond (absent t 2) none (some (ib_in (drop (place 2) t)));
+      ib = cond (absent t 2) None (Some (ib_in (drop (place 2) t)));
     }
 
 unfoldable pub record_of : List ℕ → Record

@@ -1,10 +1,8 @@
 -- Worked s_b_f_ts, by computation: what is written, what the check says of it and of damaged ones, what is read.
 use Rattle.std.specs.Prelude.{◌≡◌, refl, List, [], ◌∷◌, ◌++◌, map, ℕ, zero, suc, length}
 use Rattle.octets.specs.Octets.{byte, le16, zeros, write}
-use Rattle.table_header.specs.Verdict.{refusal, accepted, refusal_with}
+use Rattle.table_header.specs.Verdict.{refusal, accepted, Verdict, Accepted, Refused}
 use Rattle.table_header.specs.Header.{sealed}
-use Rattle.table_header.specs.declared.verdict.Verdict.{Verdict}
-use Rattle.table_header.specs.declared.verdict.Verdict.TheVariants.{Accepted, Refused}
 use Rattle.table_header.specs.declared.write.Written.{Written}
 use Rattle.sbft.specs.Layout.{scsi, srp, ib}
 use Rattle.sbft.specs.Check.{check_of}

@@ -28,14 +28,12 @@ fn outside(t: &[u8], k: u8) -> bool
 fn check_outside(t: &[u8]) -> Verdict
     ensures { result ≡ first_of (gather (outside_tests t.now) 0 part_count) }
 {
-    let mut k: u8 = 0;
-    while k < Part::COUNT {
+    for k in 0..Part::COUNT {
         if outside(t, k) {
             return refuse(31, part_of(k).word as u32);
         }
-        k += 1;
     }
-    Verdict::Accepted
+    Ok(())
 }
 
 // Do parts k and i share a byte?
@@ -58,12 +56,10 @@ fn overlap(t: &[u8], k: u8, i: u8) -> bool
 fn overlaps_earlier(t: &[u8], k: u8) -> bool
     ensures { result ≡ any k (overlap t.now k) }
 {
-    let mut i: u8 = 0;
-    while i < k {
+    for i in 0..k {
         if overlap(t, k, i) {
             return true;
         }
-        i += 1;
     }
     false
 }
@@ -71,14 +67,12 @@ fn overlaps_earlier(t: &[u8], k: u8) -> bool
 fn check_overlaps(t: &[u8]) -> Verdict
     ensures { result ≡ first_of (gather (overlap_tests t.now) 0 part_count) }
 {
-    let mut k: u8 = 0;
-    while k < Part::COUNT {
+    for k in 0..Part::COUNT {
         if overlaps_earlier(t, k) {
             return refuse(32, part_of(k).word as u32);
         }
-        k += 1;
     }
-    Verdict::Accepted
+    Ok(())
 }
 
 // The reserved bytes of the IB part, where it is present.
@@ -86,7 +80,7 @@ fn check_ib(t: &[u8]) -> Verdict
     ensures { result ≡ first_of (ib_tests t.now) }
 {
     if absent(t, Part::IB) {
-        return Verdict::Accepted;
+        return Ok(());
     }
     check_reserved(t, offset_of(t, Part::IB), Ib::RESERVED_AT, Ib::RESERVED)
 }
@@ -98,34 +92,21 @@ fn check_parts(t: &[u8]) -> Verdict
 {
     let outside = check_outside(t);
     let overlaps = check_overlaps(t);
-    if let Verdict::Refused(_) = outside {
-        return outside;
-    }
-    if let Verdict::Refused(_) = overlaps {
-        return overlaps;
-    }
+    outside?;
+    overlaps?;
     check_ib(t)
 }
 
 pub fn check(t: &[u8]) -> Verdict
     ensures { Check t.now result }
 {
-    let v = check_header(
+    check_header(
         t,
         Family::SBFT.signature,
         Family::SBFT.least as usize,
         Family::SBFT.least,
-    );
-    if let Verdict::Refused(_) = v {
-        return v;
-    }
-    let v = check_reserved(t, 0, Start::RESERVED_AT, Start::RESERVED);
-    if let Verdict::Refused(_) = v {
-        return v;
-    }
-    let v = check_reserved(t, 0, Start::LAST_RESERVED_AT, Start::LAST_RESERVED);
-    if let Verdict::Refused(_) = v {
-        return v;
-    }
+    )?;
+    check_reserved(t, 0, Start::RESERVED_AT, Start::RESERVED)?;
+    check_reserved(t, 0, Start::LAST_RESERVED_AT, Start::LAST_RESERVED)?;
     check_parts(t)
 }

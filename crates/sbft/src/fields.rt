@@ -2,7 +2,7 @@
 ghost use Rattle.std.specs.Prelude.{◌≡◌};
 ghost use Rattle.sbft.specs.Readings.{start_in, scsi_in, srp_in, ib_in};
 
-use octets::read::{eight_at, part, six_at, sixteen_at, u16_at};
+use octets::read::{array_at, part, u16_at};
 use table_header::header::{OEM_ID_AT, OEM_TABLE_ID_AT};
 
 // Of a table's start: the OEM fields.
@@ -27,8 +27,8 @@ impl Start {
         ensures { result ≡ start_in table.now }
     {
         Start {
-            oem_id: six_at(table, OEM_ID_AT as usize),
-            oem_table_id: eight_at(table, OEM_TABLE_ID_AT as usize),
+            oem_id: array_at(table, OEM_ID_AT as usize),
+            oem_table_id: array_at(table, OEM_TABLE_ID_AT as usize),
         }
     }
 }
@@ -47,7 +47,7 @@ impl Scsi {
         ensures { result ≡ scsi_in bytes.now }
     {
         Scsi {
-            lun: eight_at(bytes, Self::LUN_AT as usize),
+            lun: array_at(bytes, Self::LUN_AT as usize),
         }
     }
 }
@@ -69,8 +69,8 @@ impl Srp {
         ensures { result ≡ srp_in bytes.now }
     {
         Srp {
-            initiator_port: sixteen_at(bytes, Self::INITIATOR_PORT_AT as usize),
-            target_port: sixteen_at(bytes, Self::TARGET_PORT_AT as usize),
+            initiator_port: array_at(bytes, Self::INITIATOR_PORT_AT as usize),
+            target_port: array_at(bytes, Self::TARGET_PORT_AT as usize),
         }
     }
 }
@@ -103,9 +103,9 @@ impl Ib {
         ensures { result ≡ ib_in bytes.now }
     {
         Ib {
-            source_gid: sixteen_at(bytes, Self::SOURCE_GID_AT as usize),
-            destination_gid: sixteen_at(bytes, Self::DESTINATION_GID_AT as usize),
-            service: eight_at(bytes, Self::SERVICE_AT as usize),
+            source_gid: array_at(bytes, Self::SOURCE_GID_AT as usize),
+            destination_gid: array_at(bytes, Self::DESTINATION_GID_AT as usize),
+            service: array_at(bytes, Self::SERVICE_AT as usize),
             partition_key: u16_at(bytes, Self::PARTITION_KEY_AT as usize),
         }
     }

@@ -11,6 +11,8 @@ use crate::layout::{Part, absent, offset_of, part_of};
 use octets::read::part;
 use table_header::verdict::{Refusal, Verdict, refusal_of, refuse, shown_of};
 
+// (Fields beside a refusal, here and below, and no Result: the promises and the exports for C give a refused reading with every
+// field 0.)
 #[derive(Clone, Copy)]
 pub struct StartReading {
     pub refusal: Refusal,
@@ -39,14 +41,11 @@ pub struct IbReading {
 fn part_verdict(t: &[u8], k: u8) -> Verdict
     ensures { result ≡ part_verdict t.now k }
 {
-    let verdict = check(t);
-    if let Verdict::Refused(_) = verdict {
-        return verdict;
-    }
+    check(t)?;
     if absent(t, k) {
         return refuse(22, 0);
     }
-    Verdict::Accepted
+    Ok(())
 }
 
 // The table from part k on, as far as this verdict shows it: what the reader of that part is lent.

@@ -11,7 +11,6 @@ use crate::layout::{Part, absent, part_of};
 use octets::read::part;
 use octets::write::{put_bytes, put_u16, put_zeros};
 use scan::Family;
-use table_header::verdict::Verdict;
 use table_header::write::{Written, check_write, put_checksum, put_header, written_of};
 
 // The Length of the table that is written: 88, or 136 with the IB part.
@@ -39,10 +38,8 @@ fn offset_written(image: &[u8], k: u8) -> u16
 fn put_offsets(room: &mut [u8], image: &[u8])
     ensures { room.new ≡ write room.old 36 (gather (word_written image.now) 0 part_count) }
 {
-    let mut k: u8 = 0;
-    while k < Part::COUNT {
+    for k in 0..Part::COUNT {
         put_u16(room, part_of(k).word as usize, offset_written(image, k));
-        k += 1;
     }
 }
 
@@ -108,7 +105,7 @@ pub fn write(image: &[u8], room: &mut [u8]) -> Written
 {
     let size = length_written(image);
     let verdict = check_write(image, size, room.len());
-    if let Verdict::Refused(_) = verdict {
+    if let Err(_) = verdict {
         return written_of(verdict, size);
     }
     put_table(room, image, size);

@@ -45,7 +45,8 @@ impl Family {
     };
 }
 
-// What a scan answers: its number, 0 where a table is found, with the table's address and Length.
+// What a scan answers: its number, 0 where a table is found, with the table's address and Length. (No Result: the promises speak
+// of these three numbers in every case, and C is handed them.)
 #[derive(Clone, Copy)]
 pub struct Scanned {
     pub number: u8,
@@ -102,12 +103,14 @@ fn sound(f: Family, mem: &[u8], address: u64, k: usize) -> bool
     sums_to_zero(table)
 }
 
-// The offset of the lowest sound place, or the number of bytes lent where there is none.
+// The offset of the lowest sound place, or the number of bytes lent where there is none. (No Option: so the definition has it.)
 fn find(f: Family, mem: &[u8], address: u64) -> usize
     requires { address + length mem.now < 2 ^ 64 }
     ensures { result ≡ lowest f mem.now address }
 {
     let mut k = ((16 - address % 16) % 16) as usize;
+    // (Left by `break`, a form of docs/DECISIONS.md; with `step_by(16)`, which tests each sum for overflow, a scan takes 2.5 times
+    // as long.)
     loop {
         if mem.len() <= k {
             break mem.len();

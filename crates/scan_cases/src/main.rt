@@ -6,6 +6,7 @@ use octets::read::part;
 use octets::sum::checksum;
 use octets::write::{put_byte, put_bytes, put_u32};
 use scan::{Family, Scanned};
+use std::fmt;
 
 // Lays a table of this Length at offset k: the signature, the Length field, and the checksum byte with which it sums to 0.
 fn lay_table(mem: &mut [u8], k: u32, length: u32) {
@@ -21,105 +22,140 @@ fn spoil(mem: &mut [u8], k: u32) {
     put_byte(mem, k as usize, 1);
 }
 
-fn print_number(before: &[u8], n: u64) {
-    io::write_all(1, before);
-    io::print_decimal(1, n);
-}
+// A scan's answer, as a line says it.
+#[derive(Clone, Copy)]
+struct Answer(Scanned);
 
-fn print_scanned(s: Scanned) {
-    if s.number == 0 {
-        print_number(b": found ", s.address);
-        print_number(b" ", s.length as u64);
-    } else {
-        print_number(b": refused ", s.number as u64);
+impl fmt::Display for Answer {
+    fn fmt<W: fmt::Write>(&self, f: &mut fmt::Formatter<W>) -> fmt::Result {
+        if self.0.number == 0 {
+            return write!(f, "found {} {}", self.0.address, self.0.length);
+        }
+        write!(f, "refused {}", self.0.number)
     }
 }
 
 // Scans the memory, lent from this address on, and prints the case's line.
-fn scan_case(name: &[u8], mem: &[u8], address: u64) {
-    io::write_all(1, name);
-    print_scanned(scan::scan_for(Family::IBFT, mem, address));
+fn scan_case(rt: &impl Print, name: &str, mem: &[u8], address: u64) -> std::io::Result<()> {
+    let scanned = Answer(scan::scan_for(Family::IBFT, mem, address));
     let view = scan::table_for(Family::IBFT, mem, address);
-    print_number(b", view ", view.len() as u64);
-    io::write_all(1, b"\n");
+    println!(rt; "{name}: {scanned}, view {}", view.len())
 }
 
 // One table of this Length at offset k of 128 bytes, lent from this address on.
-fn one_table(name: &[u8], k: u32, length: u32, address: u64) {
+fn one_table(
+    rt: &impl Print,
+    name: &str,
+    k: u32,
+    length: u32,
+    address: u64,
+) -> std::io::Result<()> {
     let mut mem = [0u8; 128];
     lay_table(&mut mem, k, length);
-    scan_case(name, &mem, address);
+    scan_case(rt, name, &mem, address)
 }
 
-fn bad_sum_below_a_good_table() {
+fn bad_sum_below_a_good_table(rt: &impl Print) -> std::io::Result<()> {
     let mut mem = [0u8; 128];
     lay_table(&mut mem, 0, 48);
     spoil(&mut mem, 20);
     lay_table(&mut mem, 64, 48);
-    scan_case(b"bad sum at 524288, good table at 524352", &mem, 0x80000);
+    scan_case(rt, "bad sum at 524288, good table at 524352", &mem, 0x80000)
 }
 
 // A signature with a Length of 64 whose bytes do not sum to 0, and a table that starts inside these bytes.
-fn good_table_inside_a_bad_one() {
+fn good_table_inside_a_bad_one(rt: &impl Print) -> std::io::Result<()> {
     let mut mem = [0u8; 128];
     lay_table(&mut mem, 0, 64);
     spoil(&mut mem, 12);
     lay_table(&mut mem, 16, 48);
     scan_case(
-        b"bad sum over 64 bytes, good table at 524304 inside them",
+        rt,
+        "bad sum over 64 bytes, good table at 524304 inside them",
         &mem,
         0x80000,
-    );
+    )
 }
 
-fn cut_by_the_end() {
+fn cut_by_the_end(rt: &impl Print) -> std::io::Result<()> {
     let mut mem = [0u8; 128];
     lay_table(&mut mem, 80, 48);
-    scan_case(b"table of 48 at 524368, all its bytes lent", &mem, 0x80000);
     scan_case(
-        b"the same, its last byte not lent",
+        rt,
+        "table of 48 at 524368, all its bytes lent",
+        &mem,
+        0x80000,
+    )?;
+    scan_case(
+        rt,
+        "the same, its last byte not lent",
         part(&mem, 0, 127),
         0x80000,
-    );
+    )
 }
 
-fn fills_the_window() {
+fn fills_the_window(rt: &impl Print) -> std::io::Result<()> {
     let mut mem = [0u8; 524288];
     lay_table(&mut mem, 0, 524288);
     scan_case(
-        b"table of 524288 at 524288: the whole window",
+        rt,
+        "table of 524288 at 524288: the whole window",
         &mem,
         0x80000,
-    );
+    )
 }
 
-fn nothing_lent() {
+fn nothing_lent(rt: &impl Print) -> std::io::Result<()> {
     let mem = [0u8; 16];
     let none = part(&mem, 0, 0);
-    scan_case(b"no bytes at 1048576", none, 0x100000);
-    scan_case(b"no bytes at 1048577", none, 0x100001);
-    scan_case(b"16 bytes at 1048560", &mem, 0xFFFF0);
-    scan_case(b"16 bytes at 1048561", &mem, 0xFFFF1);
-    scan_case(b"16 bytes at 2^64 - 1: past 2^64", &mem, 0xFFFFFFFFFFFFFFFF);
+    scan_case(rt, "no bytes at 1048576", none, 0x100000)?;
+    scan_case(rt, "no bytes at 1048577", none, 0x100001)?;
+    scan_case(rt, "16 bytes at 1048560", &mem, 0xFFFF0)?;
+    scan_case(rt, "16 bytes at 1048561", &mem, 0xFFFF1)?;
+    scan_case(
+        rt,
+        "16 bytes at 2^64 - 1: past 2^64",
+        &mem,
+        0xFFFFFFFFFFFFFFFF,
+    )
 }
 
-fn main() {
-    one_table(b"table of 48 at 524288, lent from 524280", 8, 48, 0x7FFF8);
-    one_table(b"table of 48 at 524296, lent from 524288", 8, 48, 0x80000);
-    one_table(b"table of 48 at 524272, below the window", 0, 48, 0x7FFF0);
-    bad_sum_below_a_good_table();
-    good_table_inside_a_bad_one();
-    cut_by_the_end();
-    one_table(b"Length 47", 16, 47, 0x80000);
-    one_table(b"Length 48", 16, 48, 0x80000);
-    one_table(b"Length 65", 16, 65, 0x80000);
-    one_table(b"Length 4294967295", 16, 0xFFFFFFFF, 0x80000);
+fn main(rt: HostRuntime) -> std::io::Result<()> {
     one_table(
-        b"table of 48 at 1048528, up to the window's end",
+        &rt,
+        "table of 48 at 524288, lent from 524280",
+        8,
+        48,
+        0x7FFF8,
+    )?;
+    one_table(
+        &rt,
+        "table of 48 at 524296, lent from 524288",
+        8,
+        48,
+        0x80000,
+    )?;
+    one_table(
+        &rt,
+        "table of 48 at 524272, below the window",
+        0,
+        48,
+        0x7FFF0,
+    )?;
+    bad_sum_below_a_good_table(&rt)?;
+    good_table_inside_a_bad_one(&rt)?;
+    cut_by_the_end(&rt)?;
+    one_table(&rt, "Length 47", 16, 47, 0x80000)?;
+    one_table(&rt, "Length 48", 16, 48, 0x80000)?;
+    one_table(&rt, "Length 65", 16, 65, 0x80000)?;
+    one_table(&rt, "Length 4294967295", 16, 0xFFFFFFFF, 0x80000)?;
+    one_table(
+        &rt,
+        "table of 48 at 1048528, up to the window's end",
         80,
         48,
         0xFFF80,
-    );
-    fills_the_window();
-    nothing_lent();
+    )?;
+    fills_the_window(&rt)?;
+    nothing_lent(&rt)
 }

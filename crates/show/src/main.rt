@@ -3,8 +3,8 @@
 // of no family is checked as an iBFT.
 #![tactic(auto)]
 
-use abft::fields::Abft;
 use abft::reading::read_abft;
+use bench_io::{LONGEST_TABLE, write_refusal};
 use ibft_layout::control::Control;
 use ibft_layout::initiator::Initiator;
 use ibft_layout::layout::{ENTRY_COUNT, SLOT_COUNT};
@@ -15,224 +15,149 @@ use ibft_readings::login::{LoginOrder, login_order};
 use ibft_readings::structure::read_structure;
 use ibft_table::check::check;
 use notation::mac::put_mac;
-use octets::read::{byte_at, part, u32_at};
-use refusal_text::{LINE_SIZE, put_refusal};
+use octets::read::{part, u32_at};
 use sbft::layout::{Part, absent, offset_of, part_of};
 use scan::Family;
+use std::fmt;
 use table_header::header::length_of;
-use table_header::verdict::{Refusal, Verdict};
-
-const STDOUT: i32 = 1;
-
-// The longest table that a build makes has 13,710 bytes.
-const LONGEST_INPUT: usize = 16384;
-
-fn print(text: &[u8]) {
-    io::write_all(STDOUT, text);
-}
-
-fn print_number(n: u64) {
-    io::print_decimal(STDOUT, n);
-}
-
-fn print_byte(b: u8) {
-    print_number(b as u64);
-}
 
 // A structure's name: its kind, and the Index of a NIC or a target.
-fn print_name(id: u8, index: u8) {
-    if id == Initiator::ID {
-        print(b"initiator");
-        return;
-    }
-    if id == Nic::ID {
-        print(b"nic");
-    } else {
-        print(b"target");
-    }
-    print_byte(index);
+#[derive(Clone, Copy)]
+struct Name {
+    id: u8,
+    index: u8,
 }
 
-// A structure's line, with its start and flags, where it is present.
-fn show_structure(t: &[u8], slot: u8) {
-    let structure = read_structure(t, slot);
-    if structure.refusal.number != 0 {
-        return;
+impl fmt::Display for Name {
+    fn fmt<W: fmt::Write>(&self, f: &mut fmt::Formatter<W>) -> fmt::Result {
+        if self.id == Initiator::ID {
+            return write!(f, "initiator");
+        }
+        if self.id == Nic::ID {
+            return write!(f, "nic{}", self.index);
+        }
+        write!(f, "target{}", self.index)
     }
-    print_name(structure.id, structure.index);
-    print(b" ");
-    print_number(structure.start as u64);
-    print(b" ");
-    print_number(structure.flags as u64);
-    print(b"\n");
 }
 
-fn show_structures(t: &[u8]) {
+// The line of each structure that is present, with its start and flags.
+fn show_structures(rt: &impl Print, t: &[u8]) -> std::io::Result<()> {
     for slot in 0..SLOT_COUNT {
-        show_structure(t, slot);
+        let structure = read_structure(t, slot);
+        if structure.refusal.number == 0 {
+            let name = Name {
+                id: structure.id,
+                index: structure.index,
+            };
+            println!(rt; "{name} {} {}", structure.start, structure.flags)?;
+        }
     }
+    Ok(())
 }
 
-// An entry's line, with its offset and length, where it is present.
-fn show_entry(t: &[u8], n: u8) {
-    let entry = read_entry(t, n);
-    if entry.refusal.number != 0 {
-        return;
-    }
-    print(b"entry ");
-    print_number(n as u64);
-    print(b" ");
-    print_number(entry.offset as u64);
-    print(b" ");
-    print_number(entry.length as u64);
-    print(b"\n");
-}
-
-fn show_entries(t: &[u8]) {
+// The line of each entry that is present, with its offset and length.
+fn show_entries(rt: &impl Print, t: &[u8]) -> std::io::Result<()> {
     for n in 0..ENTRY_COUNT {
-        show_entry(t, n);
+        let entry = read_entry(t, n);
+        if entry.refusal.number == 0 {
+            println!(rt; "entry {n} {} {}", entry.offset, entry.length)?;
+        }
     }
-}
-
-fn show_place(index: u8) {
-    print(b" ");
-    print_byte(index);
+    Ok(())
 }
 
 // The Indexes of the targets to log in to, in their order.
-fn show_places(places: &[u8], used: u8) {
-    for i in 0..used {
-        show_place(byte_at(places, i as usize));
-    }
-}
-
-fn show_order(order: LoginOrder) {
+fn show_order(rt: &impl Print, order: LoginOrder) -> std::io::Result<()> {
     let places = order.places;
-    print(b"order");
+    print!(rt; "order")?;
     if order.used == 0 {
-        print(b" none");
+        print!(rt; " none")?;
     }
-    show_places(&places, order.used);
-    print(b"\n");
+    for index in part(&places, 0, order.used as usize) {
+        print!(rt; " {index}")?;
+    }
+    println!(rt)
 }
 
-fn show_mode(t: &[u8]) {
+fn show_mode(rt: &impl Print, t: &[u8]) -> std::io::Result<()> {
     let reading = read_header(t);
-    if reading.header.flags & Control::SINGLE_LOGIN != 0 {
-        print(b"control single\n");
+    let mode = if reading.header.flags & Control::SINGLE_LOGIN != 0 {
+        "single"
     } else {
-        print(b"control multi\n");
+        "multi"
+    };
+    println!(rt; "control {mode}")
+}
+
+fn show_ibft(rt: &impl Print, t: &[u8]) -> std::io::Result<()> {
+    if let Err(refusal) = check(t) {
+        return write_refusal(&mut std::io::writer(rt), refusal);
     }
-}
-
-// A table's Length, behind what it is called.
-fn show_length(name: &[u8], t: &[u8]) {
-    print(name);
-    print(b" ");
-    print_number(length_of(t) as u64);
-    print(b"\n");
-}
-
-fn show_table(t: &[u8]) {
-    show_length(b"table", t);
-    show_mode(t);
-    show_structures(t);
-    show_entries(t);
-    show_order(login_order(t));
-}
-
-fn show_refusal(refusal: Refusal) {
-    let mut room = [0u8; LINE_SIZE];
-    let end = put_refusal(&mut room, 0, refusal);
-    print(part(&room, 0, end));
-}
-
-fn show_ibft(t: &[u8]) {
-    match check(t) {
-        Verdict::Accepted => show_table(t),
-        Verdict::Refused(refusal) => show_refusal(refusal),
-    }
+    println!(rt; "table {}", length_of(t))?;
+    show_mode(rt, t)?;
+    show_structures(rt, t)?;
+    show_entries(rt, t)?;
+    show_order(rt, login_order(t))
 }
 
 // ---- the aBFT
 
-// A MAC address: six pairs of hexadecimal digits with colons between.
-fn print_mac(mac: [u8; 6]) {
-    let mut room = [0u8; 17];
-    let end = put_mac(&mut room, 0, &mac);
-    print(part(&room, 0, end));
-}
-
-fn show_abft_fields(fields: Abft) {
-    let mac = fields.mac;
-    print(b"shelf ");
-    print_number(fields.shelf as u64);
-    print(b"\nslot ");
-    print_byte(fields.slot);
-    print(b"\nmac ");
-    print_mac(mac);
-    print(b"\n");
-}
-
-fn show_abft(t: &[u8]) {
+fn show_abft(rt: &impl Print, t: &[u8]) -> std::io::Result<()> {
     let reading = read_abft(t);
     let refusal = reading.refusal;
     if refusal.number != 0 {
-        show_refusal(refusal);
-        return;
+        return write_refusal(&mut std::io::writer(rt), refusal);
     }
-    show_length(b"abft", t);
     let fields = reading.fields;
-    show_abft_fields(fields);
+    let mac = fields.mac;
+    println!(rt;
+        "abft {}\nshelf {}\nslot {}",
+        length_of(t),
+        fields.shelf,
+        fields.slot
+    )?;
+    print!(rt; "mac ")?;
+    let mut room = [0u8; 17];
+    let end = put_mac(&mut room, 0, &mac);
+    rt.write_all(part(&room, 0, end))?;
+    println!(rt)
 }
 
 // ---- the sBFT
 
 // A part's line: where it starts and how many bytes it has.
-fn show_part(name: &[u8], t: &[u8], k: u8) {
-    print(name);
+fn show_part(rt: &impl Print, name: &str, t: &[u8], k: u8) -> std::io::Result<()> {
     if absent(t, k) {
-        print(b" none\n");
-        return;
+        return println!(rt; "{name} none");
     }
-    print(b" ");
-    print_number(offset_of(t, k) as u64);
-    print(b" ");
-    print_number(part_of(k).size as u64);
-    print(b"\n");
+    println!(rt; "{name} {} {}", offset_of(t, k), part_of(k).size)
 }
 
-fn show_parts(t: &[u8]) {
-    show_length(b"sbft", t);
-    show_part(b"scsi", t, Part::SCSI);
-    show_part(b"srp", t, Part::SRP);
-    show_part(b"ib", t, Part::IB);
-}
-
-fn show_sbft(t: &[u8]) {
-    match sbft::check::check(t) {
-        Verdict::Accepted => show_parts(t),
-        Verdict::Refused(refusal) => show_refusal(refusal),
+fn show_sbft(rt: &impl Print, t: &[u8]) -> std::io::Result<()> {
+    if let Err(refusal) = sbft::check::check(t) {
+        return write_refusal(&mut std::io::writer(rt), refusal);
     }
+    println!(rt; "sbft {}", length_of(t))?;
+    show_part(rt, "scsi", t, Part::SCSI)?;
+    show_part(rt, "srp", t, Part::SRP)?;
+    show_part(rt, "ib", t, Part::IB)
 }
 
 // ---- the family, by the signature
 
-fn show(t: &[u8]) {
+fn show(rt: &impl Print, t: &[u8]) -> std::io::Result<()> {
     let signature = u32_at(t, 0);
     if signature == Family::ABFT.signature {
-        show_abft(t);
-        return;
+        return show_abft(rt, t);
     }
     if signature == Family::SBFT.signature {
-        show_sbft(t);
-        return;
+        return show_sbft(rt, t);
     }
-    show_ibft(t);
+    show_ibft(rt, t)
 }
 
-fn main() {
-    let mut input = [0u8; LONGEST_INPUT];
+fn main(rt: HostRuntime) -> std::io::Result<()> {
+    let mut input = [0u8; LONGEST_TABLE];
     let n = io::read_full(0, &mut input);
-    show(part(&input, 0, n));
+    show(&rt, part(&input, 0, n))
 }

@@ -4,10 +4,10 @@
 --     inside-holder       an entry and its zero lie in its holder's stretch
 --     placed-apart      an entry that may not share and any other stand apart, zeros included
 -- Assumes nothing.
+use Rattle.std.specs.Prelude.{Some}
 use mathlib.Core.Path.{◌≡◌, sym, ap, ap₂, ◌∙◌}
 use mathlib.Core.Logic.{◌⊎◌, inl, inr, ⊎_elim}
 use mathlib.Core.Bool.{Bool, true, false, ◌&&◌, ◌||◌}
-use mathlib.Core.Option.{some}
 use mathlib.Core.List.{List}
 use Prim.Native.Nat.{ℕ, ◌+◌, ◌≤◌, ◌<◌}
 use native.Mathlib.Omega.{arith}
@@ -24,7 +24,7 @@ use Rattle.string_heap.proofs.Intervals.{sum_to-mono, Apart}
 use Rattle.string_heap.proofs.HolderLaws.{either, held}
 
 module _ (n : ℕ) (shares : ℕ → Bool) (e : ℕ → Entry) where
-  pub holder-may : (i : ℕ) (a : List ℕ) → i < n → e i ≡ some a
+  pub holder-may : (i : ℕ) (a : List ℕ) → i < n → e i ≡ Some a
       → (i ≡ holder n shares e i a) ⊎ ((shares i ≡ true) × (shares (holder n shares e i a) ≡ true))
   unfolding holder holds
   holder-may i a h ei =
@@ -37,7 +37,7 @@ module _ (n : ℕ) (shares : ℕ → Bool) (e : ℕ → Entry) where
   abbrev before : ℕ → ℕ
   before k = sum_to k (λ (j : ℕ). size n shares e j)
 
-  pub inside-holder : (i : ℕ) (a : List ℕ) → i < n → e i ≡ some a
+  pub inside-holder : (i : ℕ) (a : List ℕ) → i < n → e i ≡ Some a
       → (before (holder n shares e i a) ≤ place n shares e i a)
       × (place n shares e i a + length a + 1 ≤ before (holder n shares e i a) + size n shares e (holder n shares e i a))
   unfolding place of_stored len
@@ -49,7 +49,7 @@ module _ (n : ℕ) (shares : ℕ → Bool) (e : ℕ → Entry) where
       ap₂ (λ (o : Entry) (s : Bool). of_stored o s (λ (a : List ℕ). length a + 1)) w.is w.kept in
       (omega arith, omega arith)
 
-  pub placed-apart : (i j : ℕ) (a b : List ℕ) → i < n → j < n → (i ≡ j → ⊥) → e i ≡ some a → e j ≡ some b → shares i ≡ false
+  pub placed-apart : (i j : ℕ) (a b : List ℕ) → i < n → j < n → (i ≡ j → ⊥) → e i ≡ Some a → e j ≡ Some b → shares i ≡ false
       → Apart (place n shares e i a) (place n shares e i a + length a + 1) (place n shares e j b) (place n shares e j b + length b + 1)
   placed-apart i j a b hi hj ne ei ej alone =
       let p = inside-holder i a hi ei in

@@ -3,10 +3,10 @@
 --     heap_to-past, heap_to-cut                the heap's bytes
 --     holder-cut, place-cut                    where a present entry stands
 -- Assumes nothing.
+use Rattle.std.specs.Prelude.{None, Some}
 use mathlib.Core.Path.{◌≡◌, refl, ap, ap₂, ◌∙◌}
 use mathlib.Core.Bool.{Bool, false, not, ◌&&◌, ◌||◌}
 use mathlib.Core.List.{List, ◌++◌, append-nil}
-use mathlib.Core.Option.{none, some}
 use Prim.Native.Nat.{ℕ, zero, suc, ◌+◌, ◌-◌, ◌≤◌, ◌<◌}
 use native.Mathlib.Decide.{dec_lt}
 use native.Mathlib.Omega.{arith}
@@ -24,7 +24,7 @@ unfolding sum_to
 sum_to-same zero f g h = refl
 sum_to-same (suc n) f g h = ap₂ (λ (a b : ℕ). a + b) (sum_to-same n f g h) (h n)
 
-module _ (m n : ℕ) (shares : ℕ → Bool) (e : ℕ → Entry) (le : m ≤ n) (past : (i : ℕ) → m ≤ i → e i ≡ none) where
+module _ (m n : ℕ) (shares : ℕ → Bool) (e : ℕ → Entry) (le : m ≤ n) (past : (i : ℕ) → m ≤ i → e i ≡ None) where
   -- ---- what is stored
 
   pub stored_cut : (i : ℕ) → stored n shares e i ≡ stored m shares e i
@@ -32,8 +32,8 @@ module _ (m n : ℕ) (shares : ℕ → Bool) (e : ℕ → Entry) (le : m ≤ n) 
   stored_cut i = go (e i)
     where
       go : (o : Entry) → stored_as n shares e i o ≡ stored_as m shares e i o
-      go none = refl
-      go (some a) =
+      go None = refl
+      go (Some a) =
           ap (λ (b : Bool). not (shares i && b))
           (any-cut m n (λ (j : ℕ). covered_by shares i a j (e j)) le (λ j l h. ap (covered_by shares i a j) (past j l)))
 
@@ -74,7 +74,7 @@ module _ (m n : ℕ) (shares : ℕ → Bool) (e : ℕ → Entry) (le : m ≤ n) 
 
   -- ---- where a present entry stands
 
-  module _ (i : ℕ) (a : List ℕ) (h : i < n) (is : e i ≡ some a) where
+  module _ (i : ℕ) (a : List ℕ) (h : i < n) (is : e i ≡ Some a) where
     holds-past : (j : ℕ) → m ≤ j → holds n shares e i a j ≡ false
     unfolding holds ends_with stored_as
     holds-past j l = rw (past j l)

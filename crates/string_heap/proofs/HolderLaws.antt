@@ -4,6 +4,7 @@
 --     heap-length       how long the heap's bytes are
 --     placed            every present entry stands at its place
 -- Assumes nothing.
+use Rattle.std.specs.Prelude.{None, Some}
 use Rattle.string_heap.specs.Stored.{Entry, covered_by, covers, heap_size, of_stored, size, stored, stored_as}
 use Rattle.octets.specs.Counting.{any, first, sum_to}
 use Rattle.string_heap.specs.Tails.{is_tail}
@@ -11,7 +12,6 @@ use Rattle.string_heap.specs.Places.{bytes_of, ends_with, heap_to, holds, holder
 use mathlib.Core.Path.{◌≡◌, refl, sym, ap, ap₂, ◌∙◌}
 use mathlib.Core.Logic.{◌⊎◌, inl, inr, ⊎_elim}
 use mathlib.Core.Bool.{Bool, true, false, not, ◌&&◌, ◌||◌}
-use mathlib.Core.Option.{none, some}
 use mathlib.Core.List.{List, [], ◌∷◌, ◌++◌}
 use Prim.Native.Nat.{ℕ, zero, suc, ◌+◌, ◌-◌, ◌≤◌, ◌<◌}
 use native.Mathlib.Omega.{arith}
@@ -37,7 +37,7 @@ module _ (n : ℕ) (shares : ℕ → Bool) (e : ℕ → Entry) where
     pub j : ℕ
     pub b : List ℕ
     pub below : j < n
-    pub is : e j ≡ some b
+    pub is : e j ≡ Some b
     pub kept : stored n shares e j ≡ true
     pub ends : Tail a b
     pub may : (i ≡ j) ⊎ ((shares i ≡ true) × (shares j ≡ true))
@@ -47,13 +47,13 @@ module _ (n : ℕ) (shares : ℕ → Bool) (e : ℕ → Entry) where
     pub j : ℕ
     pub b : List ℕ
     pub below : j < n
-    pub is : e j ≡ some b
+    pub is : e j ≡ Some b
     pub ends : Tail a b
     pub sharesᵢ : shares i ≡ true
     pub sharesⱼ : shares j ≡ true
     pub prior : (length a < length b) ⊎ (j < i)
 
-  covered : (i : ℕ) (a : List ℕ) → e i ≡ some a → stored n shares e i ≡ false → Covered i a
+  covered : (i : ℕ) (a : List ℕ) → e i ≡ Some a → stored n shares e i ≡ false → Covered i a
   unfolding stored_as covered_by
   covered i a ei st =
       let p : ℕ → Bool = λ j. covered_by shares i a j (e j) in
@@ -67,8 +67,8 @@ module _ (n : ℕ) (shares : ℕ → Bool) (e : ℕ → Entry) where
       flip false q = sym q
 
       go : (j : ℕ) → j < n → shares i ≡ true → (o : Entry) → e j ≡ o → covered_by shares i a j (e j) ≡ true → Covered i a
-      go j h si none ej c = clash c (ap (covered_by shares i a j) ej)
-      go j h si (some b) ej c =
+      go j h si None ej c = clash c (ap (covered_by shares i a j) ej)
+      go j h si (Some b) ej c =
           let c' = and_both (shares j) (covers i a j b) (sym (ap (covered_by shares i a j) ej) ∙ c) in
           let d = and_both (is_tail a b) (ltb (length a) (length b) || ltb j i) c'.1 in
           record {
@@ -86,7 +86,7 @@ module _ (n : ℕ) (shares : ℕ → Bool) (e : ℕ → Entry) where
   most : ℕ
   most = sum_to n (λ (i : ℕ). len (e i))
 
-  len-most : (k : ℕ) (i : ℕ) (a : List ℕ) → i < k → e i ≡ some a → length a ≤ sum_to k (λ (i : ℕ). len (e i))
+  len-most : (k : ℕ) (i : ℕ) (a : List ℕ) → i < k → e i ≡ Some a → length a ≤ sum_to k (λ (i : ℕ). len (e i))
   unfolding sum_to len
   len-most zero i a h ei = absurd (omega arith)
   len-most (suc k) i a h ei =
@@ -110,7 +110,7 @@ module _ (n : ℕ) (shares : ℕ → Bool) (e : ℕ → Entry) where
   }
 
   -- one step: stored, or look further
-  step : (i : ℕ) (a : List ℕ) → i < n → e i ≡ some a → ((c : Covered i a) → Found c.j c.b) → Found i a
+  step : (i : ℕ) (a : List ℕ) → i < n → e i ≡ Some a → ((c : Covered i a) → Found c.j c.b) → Found i a
   step i a h ei more = go (stored n shares e i) refl
     where
       go : (b : Bool) → stored n shares e i ≡ b → Found i a
@@ -118,8 +118,8 @@ module _ (n : ℕ) (shares : ℕ → Bool) (e : ℕ → Entry) where
       go false st = let c = covered i a ei st in onward i a c (more c)
 
   -- The cover is longer, or as long and of a lower number: d counts the lengths that are left, k the numbers.
-  inner : (d : ℕ) → ((j : ℕ) (b : List ℕ) → j < n → e j ≡ some b → most < length b + d → Found j b)
-      → (k i : ℕ) (a : List ℕ) → i < k → i < n → e i ≡ some a → most < length a + suc d → Found i a
+  inner : (d : ℕ) → ((j : ℕ) (b : List ℕ) → j < n → e j ≡ Some b → most < length b + d → Found j b)
+      → (k i : ℕ) (a : List ℕ) → i < k → i < n → e i ≡ Some a → most < length a + suc d → Found i a
   inner d outer zero i a h hn ei l = absurd (omega arith)
   inner d outer (suc k) i a h hn ei l =
       step i a hn ei
@@ -128,12 +128,12 @@ module _ (n : ℕ) (shares : ℕ → Bool) (e : ℕ → Entry) where
       (λ lower. let f = c.ends.fits in inner d outer k c.j c.b (omega arith) c.below c.is (omega arith))
       c.prior)
 
-  outer : (d : ℕ) (j : ℕ) (b : List ℕ) → j < n → e j ≡ some b → most < length b + d → Found j b
+  outer : (d : ℕ) (j : ℕ) (b : List ℕ) → j < n → e j ≡ Some b → most < length b + d → Found j b
   unfolding most
   outer zero j b h ej l = absurd (omega (arith, len-most n j b h ej))
   outer (suc d) j b h ej l = inner d (outer d) n j b h h ej l
 
-  pub found : (i : ℕ) (a : List ℕ) → i < n → e i ≡ some a → Found i a
+  pub found : (i : ℕ) (a : List ℕ) → i < n → e i ≡ Some a → Found i a
   found i a h ei = outer (suc most) i a h ei (omega arith)
 
   -- ---- the holder is the first of them
@@ -141,11 +141,11 @@ module _ (n : ℕ) (shares : ℕ → Bool) (e : ℕ → Entry) where
   pub record Held (i : ℕ) (a : List ℕ) : Type 0 where
     pub b : List ℕ
     pub below : (holder n shares e) i a < n
-    pub is : e ((holder n shares e) i a) ≡ some b
+    pub is : e ((holder n shares e) i a) ≡ Some b
     pub kept : stored n shares e ((holder n shares e) i a) ≡ true
     pub ends : Tail a b
 
-  pub held : (i : ℕ) (a : List ℕ) → i < n → e i ≡ some a → Held i a
+  pub held : (i : ℕ) (a : List ℕ) → i < n → e i ≡ Some a → Held i a
   unfolding holder holds ends_with any
   held i a h ei =
       let f = found i a h ei in
@@ -170,8 +170,8 @@ module _ (n : ℕ) (shares : ℕ → Bool) (e : ℕ → Entry) where
 
       go : (holder n shares e) i a < n → stored n shares e ((holder n shares e) i a) ≡ true → (o : Entry)
           → e ((holder n shares e) i a) ≡ o → ends_with a (e ((holder n shares e) i a)) ≡ true → Held i a
-      go l st none eo t = clash t (ap (ends_with a) eo)
-      go l st (some b) eo t = record { b = b; below = l; is = eo; kept = st; ends = is_tail-true a b (sym (ap (ends_with a) eo) ∙ t) }
+      go l st None eo t = clash t (ap (ends_with a) eo)
+      go l st (Some b) eo t = record { b = b; below = l; is = eo; kept = st; ends = is_tail-true a b (sym (ap (ends_with a) eo) ∙ t) }
 
   -- ---- a stored entry is its own holder
 
@@ -181,7 +181,7 @@ module _ (n : ℕ) (shares : ℕ → Bool) (e : ℕ → Entry) where
   not-both true false z h = refl
   not-both false y z h = refl
 
-  pub holder-self : (i : ℕ) (a : List ℕ) → i < n → e i ≡ some a → stored n shares e i ≡ true → (holder n shares e) i a ≡ i
+  pub holder-self : (i : ℕ) (a : List ℕ) → i < n → e i ≡ Some a → stored n shares e i ≡ true → (holder n shares e) i a ≡ i
   unfolding holder holds ends_with
   holder-self i a h ei st =
       first-is n ((holds n shares e) i a) i (omega arith)
@@ -191,8 +191,8 @@ module _ (n : ℕ) (shares : ℕ → Bool) (e : ℕ → Entry) where
       ∙ ap (λ (x : Bool). x || (shares i && shares i)) (eq-eqb i i refl))
     where
       other : (j : ℕ) → j < i → (o : Entry) → e j ≡ o → stored n shares e j ≡ true → ends_with a (e j) ≡ true → (eqb i j || (shares i && shares j)) ≡ true → ⊥
-      other j l none ej sj t may = clash t (ap (ends_with a) ej)
-      other j l (some b) ej sj t may =
+      other j l None ej sj t may = clash t (ap (ends_with a) ej)
+      other j l (Some b) ej sj t may =
           let w = and_both (shares i) (shares j) (sym (ap (λ (x : Bool). x || (shares i && shares j)) (ne_eqb i j (λ z. omega arith))) ∙ may) in
           no-tail n shares e i a j b h (omega arith) (λ z. omega arith) ei ej st sj w.0 w.1 (is_tail-true a b (sym (ap (ends_with a) ej) ∙ t))
 
@@ -205,12 +205,12 @@ module _ (n : ℕ) (shares : ℕ → Bool) (e : ℕ → Entry) where
       length-append ((heap_to n shares e) k) (bytes_of (e k) (stored n shares e k)) ∙ ap₂ (λ (x y : ℕ). x + y) (heap-length k) (one (e k) (stored n shares e k))
     where
       one : (o : Entry) (b : Bool) → length (bytes_of o b) ≡ of_stored o b (λ (a : List ℕ). length a + 1)
-      one none b = refl
-      one (some a) true = length-append a (0 ∷ [])
-      one (some a) false = refl
+      one None b = refl
+      one (Some a) true = length-append a (0 ∷ [])
+      one (Some a) false = refl
 
   -- entry j's bytes and its zero stand where the sizes before it sum to
-  heap-at : (k j : ℕ) (b : List ℕ) → j < k → e j ≡ some b → stored n shares e j ≡ true
+  heap-at : (k j : ℕ) (b : List ℕ) → j < k → e j ≡ Some b → stored n shares e j ≡ true
       → (x : ℕ) → x ≤ length b → get_or ((heap_to n shares e) k) (sum_to j (λ (i : ℕ). size n shares e i) + x) 0 ≡ get_or (b ++ (0 ∷ [])) x 0
   unfolding heap_to bytes_of of_stored
   heap-at zero j b h ej st x l = absurd (omega arith)
@@ -231,7 +231,7 @@ module _ (n : ℕ) (shares : ℕ → Bool) (e : ℕ → Entry) where
 
   -- ---- where an entry stands, counted from the heap's start
 
-  pub placed : (i : ℕ) (a : List ℕ) → i < n → e i ≡ some a → Stands ((heap_to n shares e) n) 0 (heap_size n shares e) ((place n shares e) i a) a
+  pub placed : (i : ℕ) (a : List ℕ) → i < n → e i ≡ Some a → Stands ((heap_to n shares e) n) 0 (heap_size n shares e) ((place n shares e) i a) a
   unfolding place heap_size of_stored len
   placed i a h ei =
       let w = held i a h ei in

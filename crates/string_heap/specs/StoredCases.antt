@@ -1,6 +1,5 @@
 -- Worked cases by computation: entries of which some may not share, the heap that holds them, and where each stands in it.
-use Rattle.std.specs.Prelude.{◌≡◌, refl, Bool, true, false, List, [], ◌∷◌, ◌++◌, map, ℕ, length, get_or}
-use Rattle.std.proofs.Math.Option.{none, some}
+use Rattle.std.specs.Prelude.{◌≡◌, refl, Bool, true, false, List, [], ◌∷◌, ◌++◌, map, ℕ, length, get_or, None, Some}
 use Rattle.octets.specs.Counting.{tabulate}
 use Rattle.string_heap.specs.Stored.{Entry, heap_size}
 use Rattle.string_heap.specs.Places.{heap_to, place}
@@ -12,13 +11,13 @@ record Given : Type 0 where
   shares : Bool
 
 name : List ℕ → Given
-name a = record { entry = some a; shares = true }
+name a = record { entry = Some a; shares = true }
 
 secret : List ℕ → Given
-secret a = record { entry = some a; shares = false }
+secret a = record { entry = Some a; shares = false }
 
 missing : Given
-missing = record { entry = none; shares = true }
+missing = record { entry = None; shares = true }
 
 -- a missing entry is said to stand at 0
 record Case : Type 0 where
@@ -75,8 +74,8 @@ shares_in : List Given → ℕ → Bool
 shares_in given i = (get_or given i missing).shares
 
 place_as : List Given → ℕ → Entry → ℕ
-place_as given i none = 0
-place_as given i (some a) = place (length given) (shares_in given) (entry_in given) i a
+place_as given i None = 0
+place_as given i (Some a) = place (length given) (shares_in given) (entry_in given) i a
 
 worked : List Given → Case
 worked given =

@@ -5,12 +5,6 @@ ghost use Rattle.std.specs.Prelude.{◌≡◌, true, false, ◌+◌, ◌-◌, �
 ghost use Rattle.string_heap.specs.Tails.{agree, is_tail};
 ghost use Rattle.string_heap.specs.Same.{SameFrom, SameBack};
 
-fn smaller(a: usize, b: usize) -> usize
-    ensures { result ≡ min a b }
-{
-    if a < b { a } else { b }
-}
-
 // Are the `size` bytes of a from i on and those of b from j on the same?
 fn same_block(a: &[u8], i: usize, b: &[u8], j: usize, size: usize) -> bool
     requires { (i + «size» ≤ length a.now) × (j + «size» ≤ length b.now) }
@@ -18,10 +12,8 @@ fn same_block(a: &[u8], i: usize, b: &[u8], j: usize, size: usize) -> bool
     ensures not_the_same { result ≡ false → SameFrom a.now i b.now j «size» → ⊥ }
 {
     let mut difference: u8 = 0;
-    let mut k: usize = 0;
-    while k < size {
-        difference = difference | (a[i + k] ^ b[j + k]);
-        k += 1;
+    for k in 0..size {
+        difference |= a[i + k] ^ b[j + k];
     }
     difference == 0
 }
@@ -35,12 +27,12 @@ fn same_blocks(a: &[u8], b: &[u8], most: usize, size: usize, known: usize) -> us
         (length b.now - (result + «size»)) «size» → ⊥) }
 {
     let mut k = known;
+    // (A while: the step is the size of a block.)
     while size <= most - k {
-        if same_block(a, a.len() - (k + size), b, b.len() - (k + size), size) {
-            k += size;
-        } else {
+        if !same_block(a, a.len() - (k + size), b, b.len() - (k + size), size) {
             return k;
         }
+        k += size;
     }
     k
 }
@@ -49,7 +41,7 @@ fn same_blocks(a: &[u8], b: &[u8], most: usize, size: usize, known: usize) -> us
 pub fn common_tail(a: &[u8], b: &[u8]) -> usize
     ensures { result ≡ agree a.now b.now }
 {
-    let most = smaller(a.len(), b.len());
+    let most = a.len().min(b.len());
     let wide = same_blocks(a, b, most, 32, 0);
     let narrow = same_blocks(a, b, most, 8, wide);
     same_blocks(a, b, most, 1, narrow)

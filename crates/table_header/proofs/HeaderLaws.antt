@@ -24,10 +24,8 @@ use Rattle.octets.specs.Promises.{ChecksumByte}
 use Rattle.octets.proofs.LiesLaws.{Lies}
 use Rattle.octets.proofs.ReadLaws.{byte_past}
 use Rattle.octets.proofs.WriteLaws.{length-zeros, get_d-zeros}
-use Rattle.table_header.specs.Verdict.{refusal, first_of}
+use Rattle.table_header.specs.Verdict.{refusal, first_of, Verdict, Accepted, Refused}
 use Rattle.table_header.specs.Header.{padded, reserved_tests}
-use Rattle.table_header.specs.declared.verdict.Verdict.{Verdict}
-use Rattle.table_header.specs.declared.verdict.Verdict.TheVariants.{Accepted, Refused}
 
 module _ (s : List ℕ) (i : ℕ) where
   pub padded-byte : i < length s → (byte s i ≡ 0 → ⊥) → padded (drop i s) ≡ padded (drop (i + 1) s)

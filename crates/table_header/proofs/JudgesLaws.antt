@@ -6,6 +6,7 @@
 --     check-returns                  what a check's refusal returns
 --     judges                         the promise
 -- Assumes nothing.
+use Rattle.std.specs.Prelude.{Ok, Err}
 use mathlib.Core.Path.{◌≡◌, refl, sym, ap, ◌∙◌, subst}
 use mathlib.Core.Bool.{Bool, true}
 use mathlib.Core.List.{List, ◌∷◌, ◌++◌}
@@ -17,12 +18,10 @@ use lib.Seq.{length-take-le, get_or-take}
 use Rattle.octets.specs.Counting.{tabulate}
 use Rattle.octets.specs.Octets.{byte, sum, checksum, differs}
 use Rattle.octets.proofs.SumLaws.{checksum-byte}
-use Rattle.table_header.specs.Verdict.{Test, refusal, refuse, first_of, refusal_of, refusal_with}
+use Rattle.table_header.specs.Verdict.{Test, refusal, refuse, first_of, refusal_of, refusal_with, Verdict, Refused}
 use Rattle.table_header.specs.Header.{length_of, header_tests, reserved_tests}
 use Rattle.table_header.specs.Promises.{WrongSum, ReturnsChecksum, Judges}
 use Rattle.table_header.specs.declared.verdict.Refusal.{Refusal}
-use Rattle.table_header.specs.declared.verdict.Verdict.{Verdict}
-use Rattle.table_header.specs.declared.verdict.Verdict.TheVariants.{Accepted, Refused}
 use Rattle.table_header.proofs.VerdictLaws.{accepted-not-refused, accept-none, refused-front, refused-append, Every, every-none}
 use Rattle.table_header.proofs.VerdictLaws.{every-next, every_first, none-fails, first-fails}
 
@@ -51,8 +50,8 @@ module _ (t : List ℕ) where
 
   pub verdict-returns : (v : Verdict) → ((r : Refusal) → v ≡ Refused r → ReturnsChecksum t r) → ReturnsChecksum t (refusal_of v)
   unfolding refusal_of
-  verdict-returns Accepted h = plain (refusal 0 0) (λ e. omega arith, refl)
-  verdict-returns (Refused r) h = h r refl
+  verdict-returns (Ok u) h = plain (refusal 0 0) (λ e. omega arith, refl)
+  verdict-returns (Err r) h = h r refl
 
   -- ---- the header's tests
 

@@ -4,17 +4,16 @@
 --     refusal-below, verdict-below     of a verdict, where every refusal or every test has it
 --     written_below                    of what a write answers
 -- Assumes nothing.
+use Rattle.std.specs.Prelude.{Ok, Err}
 use mathlib.Core.Path.{◌≡◌, refl, sym, ◌∙◌}
 use mathlib.Core.List.{List, ◌∷◌}
 use Prim.Native.Nat.{ℕ, zero, suc, ◌+◌, ◌≤◌, ◌<◌, ◌^◌}
 use native.Mathlib.Omega.{arith}
 use Rattle.octets.specs.Counting.{tabulate}
-use Rattle.table_header.specs.Verdict.{Test, first_of, refusal_of}
+use Rattle.table_header.specs.Verdict.{Test, first_of, refusal_of, Verdict, Refused}
 use Rattle.table_header.specs.Header.{header_tests, reserved_tests}
 use Rattle.table_header.specs.Write.{write_tests, written_from}
 use Rattle.table_header.specs.declared.verdict.Refusal.{Refusal}
-use Rattle.table_header.specs.declared.verdict.Verdict.{Verdict}
-use Rattle.table_header.specs.declared.verdict.Verdict.TheVariants.{Accepted, Refused}
 use Rattle.table_header.proofs.VerdictLaws.{Every, every-none, every-next, every_first}
 
 -- the place fits
@@ -46,16 +45,16 @@ every-reserved t at (suc n) h = test_below _ _ (omega arith) (every-reserved t (
 -- what a verdict returns, where every refusal that it can be fits
 pub refusal-below : (v : Verdict) → ((r : Refusal) → v ≡ Refused r → Below r) → Below (refusal_of v)
 unfolding refusal_of
-refusal-below Accepted h = omega arith
-refusal-below (Refused r) h = h r refl
+refusal-below (Ok u) h = omega arith
+refusal-below (Err r) h = h r refl
 
 pub verdict-below : (tests : List Test) → AllBelow tests → (v : Verdict) → v ≡ first_of tests → Below (refusal_of v)
 verdict-below tests all v e = refusal-below v (λ r is. every_first all r (sym e ∙ is))
 
 written_is : (long : ℕ) (v : Verdict) → (written_from long v).refusal ≡ refusal_of v
 unfolding written_from refusal_of
-written_is long Accepted = refl
-written_is long (Refused r) = refl
+written_is long (Ok u) = refl
+written_is long (Err r) = refl
 
 pub written_below : (oem_id oem_table_id : List ℕ) (long n : ℕ) → Below (written_from long (first_of (write_tests oem_id oem_table_id long n))).refusal
 unfolding write_tests

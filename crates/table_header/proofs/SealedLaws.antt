@@ -22,9 +22,8 @@ use Rattle.octets.proofs.ReadLaws.{bytes-elements, bytes-part, bytes_same}
 use Rattle.octets.specs.Promises.{ChecksumByte}
 use Rattle.octets.proofs.SumLaws.{checksum-sums, checksum-put}
 use Rattle.octets.proofs.TestLaws.{same_differs}
-use Rattle.table_header.specs.Verdict.{first_of}
+use Rattle.table_header.specs.Verdict.{first_of, Accepted}
 use Rattle.table_header.specs.Header.{length_of, padded, header_tests, header_start, headed, sealed}
-use Rattle.table_header.specs.declared.verdict.Verdict.TheVariants.{Accepted}
 use Rattle.table_header.proofs.VerdictLaws.{accept-none, accept-cons}
 
 -- t starts with the table of this signature, Length, OEM fields and bytes behind the header

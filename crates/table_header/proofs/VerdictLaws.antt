@@ -1,6 +1,7 @@
 -- Laws of ordered tests: the first that fails decides, and an accepted list has none that fails.
 --     Passed                                                   the first k tests have passed, as a function with a return for
 --                                                              each test climbs them
+--     returned                                                 what `?` returns where a verdict refuses
 --     pass-cons, fail-cons, accept-cons, passes, cons_same     a list by its front test
 --     first-append, append-accepted, append-refused            two lists: the first one's verdict, or else the second's
 --     append-passes, append-same                               two lists accepted; two pairs of lists with one verdict
@@ -12,6 +13,7 @@
 --     every_append, every-gather, every-cond, every-if, every_first    what all refusals of a list have, the one that it gives
 --                                                                      has
 -- What stands behind a refusal does not count. Assumes nothing.
+use Rattle.std.specs.Prelude.{Ok, Err, IsErrAnd}
 use mathlib.Core.Path.{◌≡◌, refl, sym, ap, ◌∙◌}
 use mathlib.Core.Logic.{◌↔◌}
 use mathlib.Core.List.{List, [], ◌∷◌, ◌++◌, append_assoc}
@@ -23,15 +25,18 @@ use native.Mathlib.Omega.{arith}
 use lib.ListN.{drop}
 use Rattle.octets.specs.Counting.{gather}
 use Rattle.octets.proofs.CountingLaws.{gather-step}
-use Rattle.table_header.specs.Verdict.{Test, first_of}
+use Rattle.table_header.specs.Verdict.{Test, first_of, Verdict, Accepted, Refused}
 use Rattle.table_header.specs.Promises.{NoneFails, none, next, FirstFails}
 use Rattle.table_header.specs.declared.verdict.Refusal.{Refusal}
-use Rattle.table_header.specs.declared.verdict.Verdict.{Verdict}
-use Rattle.table_header.specs.declared.verdict.Verdict.TheVariants.{Accepted, Refused}
 
 -- a verdict that accepts does not refuse
 pub accepted-not-refused {ℓ} : {X : Type ℓ} {v : Verdict} {r : Refusal} → v ≡ Accepted → v ≡ Refused r → X
 accepted-not-refused p q = absurd (let z : ◌≡◌ {A = ℕ} 0 1 = cc in omega arith)
+
+-- a `?` passes a refusal on as it is
+pub returned : (w v : Verdict) (r : Refusal) → IsErrAnd w (λ (e : Refusal). e ≡ r) → v ≡ Refused r → w ≡ v
+returned (Ok u) v r h e = absurd h
+returned (Err q) v r h e = ap Err h ∙ sym e
 
 -- ---- the front test
 
@@ -71,8 +76,8 @@ cons_same x y xs ys f r rest = go y.fails refl
 
 -- the first of two verdicts that refuses
 abbrev pub or_else : Verdict → Verdict → Verdict
-or_else Accepted w = w
-or_else (Refused r) w = Refused r
+or_else (Ok u) w = w
+or_else (Err r) w = Refused r
 
 -- the first k of these tests have passed: the verdict of all is that of the tests behind them
 abbrev pub Passed : List Test → ℕ → Type 0
@@ -98,8 +103,8 @@ module _ (xs ys : List Test) where
   append-passes e = go (first_of xs) refl
     where
       go : (v : Verdict) → first_of xs ≡ v → (first_of xs ≡ Accepted) × (first_of ys ≡ Accepted)
-      go Accepted p = (p, sym (append-accepted p) ∙ e)
-      go (Refused r) p = accepted-not-refused e (append-refused r p)
+      go (Ok u) p = (p, sym (append-accepted p) ∙ e)
+      go (Err r) p = accepted-not-refused e (append-refused r p)
 
   -- where the first list's verdict v refuses it is the whole's, where it accepts the second list's is
   module _ (v : Verdict) (is : v ≡ first_of xs) where
@@ -124,16 +129,16 @@ module _ {X : Type 0} where
   refused-append xs ys r e front rest = go (first_of xs) refl
     where
       go : (v : Verdict) → first_of xs ≡ v → X
-      go Accepted f = rest f (sym (append-accepted xs ys f) ∙ e)
-      go (Refused q) f = front (f ∙ sym (append-refused xs ys q f) ∙ e)
+      go (Ok u) f = rest f (sym (append-accepted xs ys f) ∙ e)
+      go (Err q) f = front (f ∙ sym (append-refused xs ys q f) ∙ e)
 
 pub append-same : (xs zs ys ws : List Test) → first_of xs ≡ first_of zs → (first_of zs ≡ Accepted → first_of ys ≡ first_of ws)
     → first_of (xs ++ ys) ≡ first_of (zs ++ ws)
 append-same xs zs ys ws front rest = go (first_of zs) refl
   where
     go : (v : Verdict) → first_of zs ≡ v → first_of (xs ++ ys) ≡ first_of (zs ++ ws)
-    go Accepted e = append-accepted xs ys (front ∙ e) ∙ rest e ∙ sym (append-accepted zs ws e)
-    go (Refused r) e = append-refused xs ys r (front ∙ e) ∙ sym (append-refused zs ws r e)
+    go (Ok u) e = append-accepted xs ys (front ∙ e) ∙ rest e ∙ sym (append-accepted zs ws e)
+    go (Err r) e = append-refused xs ys r (front ∙ e) ∙ sym (append-refused zs ws r e)
 
 -- ---- a list for each number: a loop over those below n, at k
 

@@ -7,6 +7,7 @@
 --     room-kept, room-filled     the room after a refused write, and after an accepted one
 --     writes                     what is promised of a write, from what its table says
 -- Assumes nothing.
+use Rattle.std.specs.Prelude.{Ok, Err}
 use mathlib.Core.Path.{◌≡◌, refl, sym, ap, ap₂, ◌∙◌, subst}
 use mathlib.Core.Bool.{true}
 use mathlib.Core.List.{List, [], ◌∷◌, ◌++◌, append_assoc, append-nil}
@@ -19,13 +20,11 @@ use Rattle.octets.specs.Octets.{byte, part, bytes_at, checksum, write}
 use Rattle.octets.specs.Promises.{ChecksumByte}
 use Rattle.octets.proofs.ReadLaws.{length-bytes_past, part-whole}
 use Rattle.octets.proofs.WriteLaws.{write-front, write-halves, set-write}
-use Rattle.table_header.specs.Verdict.{first_of, refusal_of}
+use Rattle.table_header.specs.Verdict.{first_of, refusal_of, Verdict, Accepted, Refused}
 use Rattle.table_header.specs.Header.{length_of, padded, header_start, headed, sealed}
 use Rattle.table_header.specs.Write.{write_tests, written_from, room_from}
 use Rattle.table_header.specs.Promises.{Says, Accepts, Writes}
 use Rattle.table_header.specs.declared.verdict.Refusal.{Refusal}
-use Rattle.table_header.specs.declared.verdict.Verdict.{Verdict}
-use Rattle.table_header.specs.declared.verdict.Verdict.TheVariants.{Accepted, Refused}
 use Rattle.table_header.specs.declared.write.Written.{Written}
 use Rattle.table_header.proofs.VerdictLaws.{passes, every-none, every-next, every_first}
 
@@ -136,14 +135,14 @@ module _ {R : Type 0} (check : List ℕ → Verdict) (record_of : List ℕ → R
   writes-by : (v : Verdict) → verdict ≡ v → (answer : Written) (after : List ℕ) → answer ≡ written_from long v → after ≡ room_from table before v
       → Writes check record_of given (written_from long v) (room_from table before v) before answer after
   unfolding written_from room_from refusal_of
-  writes-by Accepted e answer after ea er =
+  writes-by (Ok u) e answer after ea er =
       record {
         answer-is = ea;
         room-is = er;
         refused = λ no. absurd (no (ap (λ (w : Written). w.refusal.number) ea));
         accepted = λ z. rw (ap (λ (w : Written). w.length) ea) (accepts e after er);
       }
-  writes-by (Refused r) e answer after ea er =
+  writes-by (Err r) e answer after ea er =
       record {
         answer-is = ea;
         room-is = er;

@@ -1,11 +1,11 @@
 // The header that a table of every family starts with, and its check: refusals 3 to 8.
-ghost use Rattle.std.specs.Prelude.{◌≡◌, not, [], ◌∷◌, ◌+◌, take, drop};
-ghost use Rattle.octets.specs.Octets.{part, all_zero};
+ghost use Rattle.std.specs.Prelude.{◌≡◌, not, [], ◌∷◌, ◌+◌, take};
+ghost use Rattle.octets.specs.Octets.{part};
 ghost use Rattle.table_header.specs.Verdict.{refuse, first_of};
 ghost use Rattle.table_header.specs.Header.{length_of, padded, header_tests, reserved_tests};
 
 use crate::verdict::{Verdict, refuse, refuse_with};
-use octets::read::{byte_at, part, u32_at};
+use octets::read::{all_zero, byte_at, part, u32_at};
 use octets::sum::checksum;
 
 // Where the header's fields stand.
@@ -29,31 +29,15 @@ pub fn length_of(t: &[u8]) -> u32
     u32_at(t, LENGTH_AT as usize)
 }
 
-// Are all bytes zero from `start` on?
-fn is_zero_from(s: &[u8], start: usize) -> bool
-    ensures { result ≡ all_zero (drop start s.now) }
-{
-    let mut i = start;
-    while i < s.len() {
-        if s[i] != 0 {
-            return false;
-        }
-        i += 1;
-    }
-    true
-}
-
-// Are all bytes zero after the first zero byte? (Two loops: with one loop and a flag the check of an aBFT takes a third
-// longer.)
+// Are all bytes zero after the first zero byte? (Two loops, of which `all_zero` is the second: with one loop and a flag the check
+// of an aBFT takes a third longer.)
 pub fn is_padded(s: &[u8]) -> bool
     ensures { result ≡ padded s.now }
 {
-    let mut i = 0;
-    while i < s.len() {
-        if s[i] == 0 {
-            return is_zero_from(s, i + 1);
+    for (i, b) in s.iter().enumerate() {
+        if *b == 0 {
+            return all_zero(&s[i + 1..]);
         }
-        i += 1;
     }
     true
 }
@@ -68,7 +52,7 @@ pub(crate) fn check_oem(t: &[u8]) -> Verdict
     if !is_padded(part(t, OEM_TABLE_ID_AT as usize, 8)) {
         return refuse(8, OEM_TABLE_ID_AT);
     }
-    Verdict::Accepted
+    Ok(())
 }
 
 // The header up to the OEM fields: refusals 3 to 7. The sum is over Length bytes, not over all that are lent; where it is not
@@ -98,7 +82,7 @@ fn check_start(t: &[u8], signature: u32, least_lent: usize, least_length: u32) -
     if byte_at(t, REVISION_AT as usize) != REVISION {
         return refuse(7, REVISION_AT);
     }
-    Verdict::Accepted
+    Ok(())
 }
 
 // A family of tables has its signature, and a least number of bytes lent and a least Length. (Two functions: LLVM takes a call
@@ -106,10 +90,7 @@ fn check_start(t: &[u8], signature: u32, least_lent: usize, least_length: u32) -
 pub fn check_header(t: &[u8], signature: u32, least_lent: usize, least_length: u32) -> Verdict
     ensures { result ≡ first_of (header_tests signature least_lent least_length t.now) }
 {
-    let v = check_start(t, signature, least_lent, least_length);
-    if let Verdict::Refused(_) = v {
-        return v;
-    }
+    check_start(t, signature, least_lent, least_length)?;
     check_oem(t)
 }
 
@@ -118,13 +99,11 @@ pub fn check_reserved(t: &[u8], start: u16, first: u8, count: u8) -> Verdict
     ensures { result ≡ first_of (reserved_tests t.now (start + first) count) }
 {
     let at = start as u32 + first as u32;
-    let mut i: u8 = 0;
-    while i < count {
+    for i in 0..count {
         let place = at + i as u32;
         if byte_at(t, place as usize) != 0 {
             return refuse(30, place);
         }
-        i += 1;
     }
-    Verdict::Accepted
+    Ok(())
 }

@@ -1,10 +1,10 @@
 // What a check and the readings answer: accepted, or a refusal with its numbers. A refused reading is shown no bytes.
 ghost use Rattle.std.specs.Prelude.{◌≡◌};
-ghost use Rattle.table_header.specs.Verdict.{refusal, refusal_of, shown, refusal_with};
-ghost use Rattle.table_header.specs.declared.verdict.Verdict.TheVariants.{Accepted, Refused};
+ghost use Rattle.table_header.specs.Verdict.{refusal, refusal_of, shown, refusal_with, Accepted, Refused};
 
 // A refusal's number and place (RULES.md, Terms), and with 6 the checksum byte that would be right, which may be 0; with any
 // other number that byte is 0. An accepted call has 0 in all three.
+// (A number, and no enum of the refusals: RULES.md and `refusal` of specs/ speak of numbers, and C is handed them.)
 #[derive(Clone, Copy)]
 pub struct Refusal {
     pub number: u8,
@@ -12,11 +12,8 @@ pub struct Refusal {
     pub checksum: u8,
 }
 
-#[derive(Clone, Copy)]
-pub enum Verdict {
-    Accepted,
-    Refused(Refusal),
-}
+// What a check answers: that it accepts, or its refusal.
+pub type Verdict = Result<(), Refusal>;
 
 // What a call returns where it accepts.
 pub const ACCEPTED: Refusal = Refusal {
@@ -36,7 +33,7 @@ pub fn refuse(number: u8, place: u32) -> Verdict
 pub fn refuse_with(number: u8, place: u32, checksum: u8) -> Verdict
     ensures { result ≡ Refused (record { number = number; place = place; checksum = checksum }) }
 {
-    Verdict::Refused(Refusal {
+    Err(Refusal {
         number,
         place,
         checksum,
@@ -48,8 +45,8 @@ pub fn refusal_of(verdict: Verdict) -> Refusal
     ensures { result ≡ refusal_of verdict }
 {
     match verdict {
-        Verdict::Accepted => ACCEPTED,
-        Verdict::Refused(refusal) => refusal,
+        Ok(()) => ACCEPTED,
+        Err(refusal) => refusal,
     }
 }
 
@@ -59,7 +56,7 @@ pub fn shown_of(verdict: Verdict, bytes: &[u8]) -> &[u8]
     ensures stands { verdict ≡ Accepted → result.ref_ptr ≡ bytes.entry.ref_ptr }
 {
     match verdict {
-        Verdict::Accepted => bytes,
-        Verdict::Refused(_) => &bytes[..0],
+        Ok(()) => bytes,
+        Err(_) => &bytes[..0],
     }
 }

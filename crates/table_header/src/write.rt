@@ -7,11 +7,12 @@ ghost use Rattle.table_header.specs.Write.{write_tests, written_from};
 
 use crate::header::{CHECKSUM_AT, OEM_ID_AT, OEM_TABLE_ID_AT, REVISION, check_oem};
 use crate::verdict::{ACCEPTED, Refusal, Verdict, refuse};
-use octets::read::{eight_at, part, six_at};
+use octets::read::{array_at, part};
 use octets::sum::checksum;
 use octets::write::{put_byte, put_bytes};
 
 // What a write answers: its refusal (all 0 where it is accepted) and the table's Length.
+// (No Result: the promises speak of both numbers in every case, and C is handed them.)
 #[derive(Clone, Copy)]
 pub struct Written {
     pub refusal: Refusal,
@@ -22,14 +23,11 @@ pub struct Written {
 pub fn check_write(image: &[u8], size: u32, room: usize) -> Verdict
     ensures { result ≡ first_of (write_tests (bytes_at image.now 10 6) (bytes_at image.now 16 8) size room) }
 {
-    let v = check_oem(image);
-    if let Verdict::Refused(_) = v {
-        return v;
-    }
+    check_oem(image)?;
     if room < size as usize {
         return refuse(21, 0);
     }
-    Verdict::Accepted
+    Ok(())
 }
 
 // What a write of a table of `size` bytes with this verdict answers.
@@ -37,11 +35,11 @@ pub fn written_of(verdict: Verdict, size: u32) -> Written
     ensures { result ≡ written_from size verdict }
 {
     match verdict {
-        Verdict::Accepted => Written {
+        Ok(()) => Written {
             refusal: ACCEPTED,
             length: size,
         },
-        Verdict::Refused(refusal) => Written { refusal, length: 0 },
+        Err(refusal) => Written { refusal, length: 0 },
     }
 }
 
@@ -49,18 +47,9 @@ pub fn written_of(verdict: Verdict, size: u32) -> Written
 pub fn header_start(signature: u32, size: u32) -> [u8; 10]
     ensures { result ≡ header_start signature size }
 {
-    [
-        (signature % 256) as u8,
-        (signature / 256 % 256) as u8,
-        (signature / 65536 % 256) as u8,
-        (signature / 65536 / 256 % 256) as u8,
-        (size % 256) as u8,
-        (size / 256 % 256) as u8,
-        (size / 65536 % 256) as u8,
-        (size / 65536 / 256 % 256) as u8,
-        REVISION,
-        0,
-    ]
+    let s = signature.to_le_bytes();
+    let n = size.to_le_bytes();
+    [s[0], s[1], s[2], s[3], n[0], n[1], n[2], n[3], REVISION, 0]
 }
 
 // Writes the header of a table of this Length, the OEM fields as the image has them. What would fall past the room is not
@@ -71,9 +60,9 @@ pub fn put_header(room: &mut [u8], signature: u32, size: u32, image: &[u8])
 {
     let start = header_start(signature, size);
     put_bytes(room, 0, &start);
-    let oem_id = six_at(image, OEM_ID_AT as usize);
+    let oem_id = array_at::<6>(image, OEM_ID_AT as usize);
     put_bytes(room, OEM_ID_AT as usize, &oem_id);
-    let oem_table_id = eight_at(image, OEM_TABLE_ID_AT as usize);
+    let oem_table_id = array_at::<8>(image, OEM_TABLE_ID_AT as usize);
     put_bytes(room, OEM_TABLE_ID_AT as usize, &oem_table_id);
 }
 

@@ -1,25 +1,32 @@
 -- Laws of text taken apart. A search is followed along the list, from one place to the next; a text without its blanks is a
 -- part of it; pieces are taken off one by one at the first separator.
 --     before-le, before-stop, before-next, before-end, before-append     the first byte that passes a test
---     before-rest, before-zero                                           what stands there
+--     position-length, before-found                                      the same, as `position` finds it
 --     same_refl, same-yes, same-equal, same-unlike, same-no              the same bytes are equal lists
+--     same-pointwise                                                     the same bytes, as `==` finds it
 --     trim-part, value-part                                              what is left stands at that place
---     trim_end-whole, trim_end-last, trim_end-append, trim-whole            texts with no blank at their ends are left whole
+--     trim_end-size                                                      how many bytes are left, by the last that is no blank
+--     trim_end-whole, trim_end-append, trim-whole                        texts with no blank at their ends are left whole
 --     field-line, value_line, trim-line                                  a line made of a field, a blank and a value
 --     pieces-first, pieces-some, pieces_none                             pieces, by the first separator
+--     pieces-cut                                                         pieces, as `split` gives them
 --     pieces-lack, pieces-joined, pieces-join, join-pieces               pieces hold no separator; joined and taken apart again
 -- Assumes nothing.
 use mathlib.Core.Path.{◌≡◌, refl, sym, ap, ap₂, ◌∙◌}
 use mathlib.Core.List.{List, [], ◌∷◌, ◌++◌, append-nil}
-use mathlib.Core.Bool.{Bool, true, false, cond, not}
-use Prim.Native.Nat.{ℕ, suc, ◌+◌, ◌-◌, ◌≤◌, ◌<◌}
-use native.Mathlib.Numerals.{add-one}
-use native.Mathlib.Decide.{dec_lt}
+use mathlib.Core.Bool.{Bool, true, false, cond, not, ◌&&◌}
+use Prim.Native.Nat.{ℕ, zero, suc, ◌+◌, ◌-◌, ◌≤◌, ◌<◌}
+use native.Mathlib.Numerals.{add-one, one-add}
 use native.Mathlib.Omega.{arith}
-use borrow.Author.Tests.{eqb-true, eq-eqb, not-true}
+use borrow.Author.Tests.{eqb-true, eq-eqb, ltb-false, not-true}
 use lib.ListN.{length, take, drop, get_or, length-append, drop_of_length-le}
-use lib.Seq.{drop-cons, take-suc, take-append_seam, drop-append_seam, length-take-le, ext_get_or}
-use lib.Dec.{eqb}
+use lib.Seq.{drop-cons, take-append_seam, drop-append_seam}
+use lib.Dec.{eqb, ltb}
+use Rattle.std.specs.Prelude.{Option, Some, None, unwrap_or}
+use Rattle.std.specs.List.{position, position_or_len, slice_split}
+use Rattle.std.specs.Cmp.Lexicographic.{pointwise}
+use Rattle.std.proofs.lemmas.List.Recursion.{is_position_or_len}
+use Rattle.std.proofs.lemmas.List.Sums.{prefix_len-le-length}
 use Rattle.octets.specs.Octets.{part}
 use Rattle.octets.proofs.ReadLaws.{part-from, take_rest}
 use Rattle.octets.proofs.CountingLaws.{clash}
@@ -60,22 +67,26 @@ module _ (p : ℕ → Bool) where
       let here : p a ≡ false = not-true (p a) both.0 in
       rw here (ap suc (before-append x b t both.1 e))
 
-  pub before-rest : (t : List ℕ) → before p (drop (before p t) t) ≡ 0
-  unfolding before
-  before-rest [] = refl
-  before-rest (b ∷ t) = go (p b) refl (before-rest t)
-    where
-      go : (d : Bool) → p b ≡ d → before p (drop (before p t) t) ≡ 0 → before p (drop (cond d 0 (suc (before p t))) (b ∷ t)) ≡ 0
-      go true e h = rw e
-      go false e h = h
+-- `position`, or the length where it finds nothing
+pub position-length : {X : Type 0} (p : X → Bool) (xs : List X) (r : Option ℕ) → r ≡ position p xs → unwrap_or r (length xs) ≡ position_or_len p xs
+position-length p xs r e = go (ltb (position_or_len p xs) (length xs)) refl
+  where
+    go : (d : Bool) → ltb (position_or_len p xs) (length xs) ≡ d → unwrap_or r (length xs) ≡ position_or_len p xs
+    go true f =
+        let found : r ≡ Some (position_or_len p xs) = e ∙ rw f in
+        rw found
+    go false f =
+        let none : r ≡ None = e ∙ rw f in
+        rw none (omega (arith, prefix_len-le-length (λ x. not (p x)) xs, ltb-false (position_or_len p xs) (length xs) f))
 
-  pub before-zero : (b : ℕ) (t : List ℕ) → before p (b ∷ t) ≡ 0 → p b ≡ true
-  unfolding before
-  before-zero b t = go (p b)
-    where
-      go : (d : Bool) → cond d 0 (suc (before p t)) ≡ 0 → d ≡ true
-      go true e = refl
-      go false e = absurd (omega arith)
+pub before-found : (p : ℕ → Bool) (t : List ℕ) (r : Option ℕ) → r ≡ position p t
+    → (unwrap_or r (length t) ≡ before p t) × (unwrap_or r (length t) ≤ length t)
+unfolding before
+before-found p t r e =
+    let step = λ (x : ℕ) (xs : List ℕ). ap (cond (p x) 0) (sym (one-add (before p xs))) in
+    let is : before p t ≡ position_or_len p t = is_position_or_len (before p) p refl step t in
+    let found = position-length p t r e in
+    (found ∙ sym is, omega (arith, found, is, before-le p t))
 
 -- ---- the same bytes
 
@@ -106,60 +117,35 @@ same-unlike a b unlike = go (same a b) refl
 pub same-no : (a b : List ℕ) → same a b ≡ false → a ≡ b → ⊥
 same-no a b e q = clash (same-yes a b q) e
 
--- a loop that compares: lists of other lengths, lists that differ at i, lists with the same elements
-pub same-lengths : (a b : List ℕ) → (length a ≡ length b → ⊥) → false ≡ same a b
-same-lengths a b unlike = sym (same-unlike a b (λ e. unlike (ap length e)))
-
-pub same-differ : (a b : List ℕ) (i : ℕ) → (get_or a i 0 ≡ get_or b i 0 → ⊥) → false ≡ same a b
-same-differ a b i unlike = sym (same-unlike a b (λ e. unlike (ap (λ (l : List ℕ). get_or l i 0) e)))
-
-pub same-elements : (a b : List ℕ) → length a ≡ length b → ((i : ℕ) → i < length a → get_or a i 0 ≡ get_or b i 0) → true ≡ same a b
-same-elements a b e h = sym (same-yes a b (ext_get_or 0 a b e h))
-
--- one place more is compared
-pub below_more : (a b : List ℕ) (i : ℕ) → ((j : ℕ) → j < i → get_or a j 0 ≡ get_or b j 0) → get_or a i 0 ≡ get_or b i 0
-    → (j : ℕ) → j < i + 1 → get_or a j 0 ≡ get_or b j 0
-below_more a b i h e j l = go (dec_lt j i)
-  where
-    go : Dec (j < i) → get_or a j 0 ≡ get_or b j 0
-    go (yes m) = h j m
-    go (no m) = let z : j ≡ i = omega arith in rw z e
+-- `==` of two slices
+pub same-pointwise : (a b : List ℕ) → pointwise eqb a b ≡ same a b
+unfolding same
+same-pointwise [] [] = refl
+same-pointwise [] (y ∷ ys) = refl
+same-pointwise (x ∷ xs) [] = refl
+same-pointwise (x ∷ xs) (y ∷ ys) = ap (λ (d : Bool). eqb x y && d) (same-pointwise xs ys)
 
 -- ---- without the blanks at the end
 
--- one blank less at the end, and a last byte that is none
-trim_end-blank : (x : List ℕ) (b : ℕ) → is_blank b ≡ true → trim_end (x ++ (b ∷ [])) ≡ trim_end x
+kept-none : (b : ℕ) (t : List ℕ) → is_blank b ≡ true → 0 ≡ length t → 0 ≡ length (kept b t)
+kept-none b [] e h = rw e
+kept-none b (x ∷ xs) e h = absurd (omega arith)
+
+kept-more : (b : ℕ) (t : List ℕ) → (0 ≡ length t → is_blank b ≡ false) → suc (length t) ≡ length (kept b t)
+kept-more b [] e = rw (e refl)
+kept-more b (x ∷ xs) e = refl
+
+-- n bytes are left, where all from n on are blanks and the one before n is none
+pub trim_end-size : (t : List ℕ) (n : ℕ) → n ≤ length t → ((k : ℕ) → n ≤ k → k < length t → is_blank (get_or t k 0) ≡ true)
+    → ((m : ℕ) → n ≡ suc m → is_blank (get_or t m 0) ≡ false) → n ≡ length (trim_end t)
 unfolding trim_end
-trim_end-blank [] b e = rw e
-trim_end-blank (a ∷ x) b e = ap (kept a) (trim_end-blank x b e)
-
-kept-last : (a : ℕ) (x : List ℕ) (b : ℕ) → kept a (x ++ (b ∷ [])) ≡ a ∷ (x ++ (b ∷ []))
-kept-last a [] b = refl
-kept-last a (y ∷ ys) b = refl
-
-pub trim_end-last : (x : List ℕ) (b : ℕ) → is_blank b ≡ false → trim_end (x ++ (b ∷ [])) ≡ x ++ (b ∷ [])
-unfolding trim_end
-trim_end-last [] b e = rw e
-trim_end-last (a ∷ x) b e = ap (kept a) (trim_end-last x b e) ∙ kept-last a x b
-
--- the first n bytes, by the last of them
-module _ (s : List ℕ) (n : ℕ) (some : 0 < n) (inside : n ≤ length s) where
-  take_last : take n s ≡ take (n - 1) s ++ (get_or s (n - 1) 0 ∷ [])
-  take_last =
-      let e : n ≡ suc (n - 1) = omega arith in
-      ap (λ (k : ℕ). take k s) e ∙ take-suc s (n - 1) 0 (omega arith)
-
-  pub trim_end-less : is_blank (get_or s (n - 1) 0) ≡ true → trim_end (take n s) ≡ trim_end (take (n - 1) s)
-  trim_end-less e = ap trim_end take_last ∙ trim_end-blank (take (n - 1) s) (get_or s (n - 1) 0) e
-
-  pub trim_end-stop : is_blank (get_or s (n - 1) 0) ≡ false → length (trim_end (take n s)) ≡ n
-  trim_end-stop e =
-      ap length (ap trim_end take_last ∙ trim_end-last (take (n - 1) s) (get_or s (n - 1) 0) e ∙ sym take_last)
-      ∙ length-take-le n s inside
-
-pub trim_end-none : (s : List ℕ) → length (trim_end (take 0 s)) ≡ 0
-unfolding trim_end
-trim_end-none s = refl
+trim_end-size [] n h blank ends = omega arith
+trim_end-size (b ∷ t) zero h blank ends =
+    kept-none b (trim_end t) (blank 0 (omega arith) (omega arith))
+    (trim_end-size t 0 (omega arith) (λ k l m. blank (suc k) (omega arith) (omega arith)) (λ m e. absurd (omega arith)))
+trim_end-size (b ∷ t) (suc n) h blank ends =
+    let rest : n ≡ length (trim_end t) = trim_end-size t n (omega arith) (λ k l m. blank (suc k) (omega arith) (omega arith)) (λ m e. ends (suc m) (ap suc e)) in
+    ap suc rest ∙ kept-more b (trim_end t) (λ e. ends 0 (ap suc (rest ∙ sym e)))
 
 -- what is left stands at the front
 kept-alone : (d : Bool) (b : ℕ) (t : List ℕ) → take (length (cond d [] (b ∷ []))) (b ∷ t) ≡ cond d [] (b ∷ [])
@@ -273,6 +259,12 @@ module _ (p : ℕ → Bool) where
   unfolding pieces_by before after
   pieces-split [] = refl
   pieces-split (b ∷ t) = pieces-cons (p b) b t (pieces-split t)
+
+  -- `split` at the bytes that pass gives these pieces
+  pub pieces-cut : (t : List ℕ) → slice_split p t ≡ pieces_by p t
+  unfolding pieces_by
+  pieces-cut [] = refl
+  pieces-cut (b ∷ t) = rw (pieces-cut t, pieces-split t)
 
   -- the first piece ends at n, and more follow, or it is the last
   module _ (t : List ℕ) (n : ℕ) (first : n ≡ before p t) where

@@ -19,7 +19,7 @@ use Rattle.octets.proofs.TestLaws.{and_both}
 use Rattle.text.specs.Split.{is_blank, before, same, each, blanks, kept, trim_end, trim, pieces_by, join, lacks}
 use Rattle.text.specs.Words.{words_of, word_number, word_count, word_at, place_of, bit, non_empty, tokens, with_words, no_word, read_word_set}
 use Rattle.text.specs.Words.{chosen, set_text, word_set_text, distinct, good_word, good_list}
-use Rattle.text.specs.declared.words.WordSet.TheVariants.{Value}
+use Rattle.std.specs.Prelude.{Some}
 use Rattle.text.proofs.SplitLaws.{same_refl, same-yes, same-unlike, kept-some, trim_end-whole, trim_end-append, trim-whole, blanks-append, pieces-joined}
 use Rattle.text.proofs.WordsLaws.{non_empty-cons, with-next, chosen-cons}
 
@@ -84,19 +84,19 @@ bits-odd k x odd =
 module _ (list : List ℕ) (apart : distinct (words_of list) ≡ true) (few : word_count list ≤ 8) where
   -- the words behind word k make the set that they should, whatever stands before them
   Adds : ℕ → ℕ → Type 0
-  Adds k x = (u : ℕ) → u < 2 ^ k → with_words list u (chosen (drop k (words_of list)) x) ≡ Value (u + 2 ^ k * x)
+  Adds k x = (u : ℕ) → u < 2 ^ k → with_words list u (chosen (drop k (words_of list)) x) ≡ Some (u + 2 ^ k * x)
 
   add-word : (k x : ℕ) → k < word_count list → Adds (k + 1) (x / 2) → (u : ℕ) → u < 2 ^ k → (d : Bool) → eqb (x % 2) 1 ≡ d
       → let rest = chosen (drop (k + 1) (words_of list)) (x / 2) in
-      with_words list u (cond d (word_at list k ∷ rest) rest) ≡ Value (u + 2 ^ k * x)
+      with_words list u (cond d (word_at list k ∷ rest) rest) ≡ Some (u + 2 ^ k * x)
   unfolding Adds
   add-word k x more adds u l true e =
       let free : eqb (bit k u) 1 ≡ false = rw (div-eq_of_lt l) in
       sym (with-next list u _ (word_at list k) _ refl k (sym (number_at list k apart more)) more (omega arith) free)
       ∙ adds (u + 2 ^ k) (omega (arith, power k))
-      ∙ ap Value (omega (arith, bits-odd k x (eqb-true (x % 2) 1 e)))
+      ∙ ap Some (omega (arith, bits-odd k x (eqb-true (x % 2) 1 e)))
   add-word k x more adds u l false e =
-      adds u (omega (arith, power k)) ∙ ap Value (omega (arith, bits-even k x (eqb-false (x % 2) 1 e)))
+      adds u (omega (arith, power k)) ∙ ap Some (omega (arith, bits-even k x (eqb-false (x % 2) 1 e)))
 
   -- m words from word k on are left
   add-chosen : (m k x : ℕ) → k + m ≡ word_count list → x < 2 ^ m → Adds k x
@@ -104,7 +104,7 @@ module _ (list : List ℕ) (apart : distinct (words_of list) ≡ true) (few : wo
   add-chosen zero k x e h u l =
       let none : x ≡ 0 = omega arith in
       let end : length (words_of list) ≤ k = omega arith in
-      rw (drop_of_length-le (words_of list) end, none) (ap Value (omega arith))
+      rw (drop_of_length-le (words_of list) end, none) (ap Some (omega arith))
   add-chosen (suc m) k x e h u l =
       let more : k < length (words_of list) = omega arith in
       let half : x / 2 < 2 ^ m = omega (arith, pow-suc 2 m) in
@@ -178,7 +178,7 @@ read-text list (w ∷ ws) all = rw (trim-join w ws all, not_none w ws all, token
 
 -- ---- what is put is read
 
-pub set_back : (list : List ℕ) (v : ℕ) → good_list list ≡ true → v < 2 ^ word_count list → read_word_set list (word_set_text list v) ≡ Value v
+pub set_back : (list : List ℕ) (v : ℕ) → good_list list ≡ true → v < 2 ^ word_count list → read_word_set list (word_set_text list v) ≡ Some v
 unfolding good_list word_set_text Adds
 set_back list v e h =
     let last = and_both (leb (word_count list) 8 && each good_word (words_of list)) (distinct (words_of list)) e in
@@ -186,4 +186,4 @@ set_back list v e h =
     let few = leb-true (word_count list) 8 both.0 in
     read-text list (chosen (words_of list) v) (each_chosen good_word (words_of list) v both.1)
     ∙ add-chosen list last.1 few (word_count list) 0 v (omega arith) h 0 (omega arith)
-    ∙ ap Value (omega arith)
+    ∙ ap Some (omega arith)

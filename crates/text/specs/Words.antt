@@ -1,9 +1,7 @@
 -- Words: lists of words as text, with one space between, and sets of such words. Assumes nothing: these are definitions.
-use Rattle.std.specs.Prelude.{List, [], ◌∷◌, ◌++◌, Bool, true, false, cond, not, ◌&&◌, ◌||◌, ℕ, suc, ◌+◌, ◌/◌, ◌%◌, ◌^◌, length, get_or, eqb, leb, ltb}
+use Rattle.std.specs.Prelude.{List, [], ◌∷◌, ◌++◌, Bool, true, false, cond, not, ◌&&◌, ◌||◌, ℕ, suc, ◌+◌, ◌/◌, ◌%◌, ◌^◌, length, get_or, eqb, leb, ltb, Option, Some, None}
 use Rattle.text.specs.Put.{ascii}
 use Rattle.text.specs.Split.{is_blank, same, each, trim, pieces_by, pieces, join, lacks}
-use Rattle.text.specs.declared.words.WordSet.{WordSet}
-use Rattle.text.specs.declared.words.WordSet.TheVariants.{Value, Bad}
 
 -- ---- a list of words
 
@@ -44,27 +42,28 @@ non_empty ((b ∷ l) ∷ ls) = (b ∷ l) ∷ non_empty ls
 abbrev pub tokens : List ℕ → List (List ℕ)
 tokens s = non_empty (pieces_by is_blank s)
 
--- the set v with the words added: each must be one of the first eight of the list, and not be in the set yet
-unfoldable pub with_words : List ℕ → ℕ → List (List ℕ) → WordSet
-with_words list v [] = Value v
+-- the set v with the words added: each must be one of the first eight of the list, and not be in the set yet, else there is no
+-- set
+unfoldable pub with_words : List ℕ → ℕ → List (List ℕ) → Option ℕ
+with_words list v [] = Some v
 with_words list v (w ∷ ws) =
     let k = word_number list w in
     let rest = with_words list (v + 2 ^ k) ws in
-    cond (leb (word_count list) k || leb 8 k || eqb (bit k v) 1) Bad rest
+    cond (leb (word_count list) k || leb 8 k || eqb (bit k v) 1) None rest
 
 -- the word for a set of no words
 abbrev pub no_word : List ℕ
 no_word = ascii "none"
 
 -- the set that the words make: at least one
-abbrev pub some_words : List ℕ → List (List ℕ) → WordSet
-some_words list [] = Bad
+abbrev pub some_words : List ℕ → List (List ℕ) → Option ℕ
+some_words list [] = None
 some_words list (w ∷ ws) = with_words list 0 (w ∷ ws)
 
 -- the set that is written in the text s; `none` alone is the empty set (beside others it is no word: no list of a set's words
 -- has it)
-unfoldable pub read_word_set : List ℕ → List ℕ → WordSet
-read_word_set list s = cond (same (trim s) no_word) (Value 0) (some_words list (tokens s))
+unfoldable pub read_word_set : List ℕ → List ℕ → Option ℕ
+read_word_set list s = cond (same (trim s) no_word) (Some 0) (some_words list (tokens s))
 
 -- those of the words that are in the set v, of which bit 0 is for the first of them
 unfoldable pub chosen : List (List ℕ) → ℕ → List (List ℕ)

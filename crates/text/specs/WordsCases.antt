@@ -1,14 +1,12 @@
 -- Worked cases by computation: every list of names in use, and sets of words at the edges of each rule, as lists under one
 -- theorem each.
-use Rattle.std.specs.Prelude.{◌≡◌, refl, List, [], ◌∷◌, map, Bool, true, false, ℕ, ◌^◌, eqb}
+use Rattle.std.specs.Prelude.{◌≡◌, refl, List, [], ◌∷◌, map, Bool, true, false, ℕ, ◌^◌, eqb, Option, Some, None}
 use Prim.Native.String.{String}
 use Rattle.octets.specs.Counting.{tabulate}
 use Rattle.text.specs.Put.{ascii}
 use Rattle.text.specs.Split.{each}
 use Rattle.text.specs.Words.{words_of, word_count, word_at, word_number, distinct, good_list, read_word_set, word_set_text}
 use Rattle.text.specs.Computing.{computing}
-use Rattle.text.specs.declared.words.WordSet.{WordSet}
-use Rattle.text.specs.declared.words.WordSet.TheVariants.{Value, Bad}
 
 -- the numbers below n
 abbrev below : ℕ → List ℕ
@@ -47,9 +45,9 @@ unfolding computing flag_lists
 flags-good = refl
 
 -- the set is v
-is_set : ℕ → WordSet → Bool
-is_set v (Value u) = eqb u v
-is_set v Bad = false
+is_set : ℕ → Option ℕ → Bool
+is_set v (Some u) = eqb u v
+is_set v None = false
 
 -- so every set of their words is read as it is written
 flags-hold : each (λ (list : List ℕ). each (λ (v : ℕ). is_set v (read_word_set list (word_set_text list v))) (below (2 ^ word_count list))) flag_lists ≡ true
@@ -59,28 +57,28 @@ flags-hold = refl
 -- a text, and the set of words out of `valid selected global` that it says
 record Case : Type 0 where
   text : List ℕ
-  set : WordSet
+  set : Option ℕ
 
-says : String → WordSet → Case
+says : String → Option ℕ → Case
 says t s = record { text = ascii t; set = s }
 
 cases : List Case
 cases =
-    says "valid" (Value 1)
-    ∷ says "global valid" (Value 5)
-    ∷ says "valid \t selected\rglobal" (Value 7)
-    ∷ says " valid " (Value 1)
-    ∷ says "none" (Value 0)
-    ∷ says " none " (Value 0)
-    ∷ says "" Bad
-    ∷ says "  " Bad
-    ∷ says "valid valid" Bad
-    ∷ says "valid none" Bad
-    ∷ says "none none" Bad
-    ∷ says "Valid" Bad
-    ∷ says "vali" Bad
-    ∷ says "validselected" Bad
-    ∷ says "valid,global" Bad
+    says "valid" (Some 1)
+    ∷ says "global valid" (Some 5)
+    ∷ says "valid \t selected\rglobal" (Some 7)
+    ∷ says " valid " (Some 1)
+    ∷ says "none" (Some 0)
+    ∷ says " none " (Some 0)
+    ∷ says "" None
+    ∷ says "  " None
+    ∷ says "valid valid" None
+    ∷ says "valid none" None
+    ∷ says "none none" None
+    ∷ says "Valid" None
+    ∷ says "vali" None
+    ∷ says "validselected" None
+    ∷ says "valid,global" None
     ∷ []
 
 cases-hold : map (λ (c : Case). record { text = c.text; set = read_word_set (ascii "valid selected global") c.text }) cases ≡ cases
@@ -93,6 +91,6 @@ unfolding computing
 bits-left-out = refl
 
 -- a ninth word is no word of a set
-ninth-bad : read_word_set (ascii "a b c d e f g h i") (ascii "i") ≡ Bad
+ninth-bad : read_word_set (ascii "a b c d e f g h i") (ascii "i") ≡ None
 unfolding computing
 ninth-bad = refl

@@ -5,17 +5,11 @@ ghost use Rattle.text.specs.Put.{Puts};
 
 use octets::write::{put_byte, put_bytes};
 
-// The place n behind `at`, at most `size`. (The sum is taken only where it cannot wrap.)
+// The place n behind `at`, at most `size`.
 fn place_behind(size: usize, at: usize, n: usize) -> usize
     ensures { result ≡ min size (at + n) }
 {
-    if size <= at {
-        return size;
-    }
-    if size - at <= n {
-        return size;
-    }
-    at + n
+    size.min(at.saturating_add(n))
 }
 
 // Puts the text s at `at`; answers the place behind it.

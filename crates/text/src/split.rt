@@ -1,88 +1,60 @@
 // Text taken apart: the blanks at its ends, the field and the value of a line, a byte's place. Parts are shown, not copied.
 ghost use Rattle.std.specs.Prelude.{◌≡◌, ◌≤◌, length};
 ghost use Rattle.octets.specs.View.{Part};
-ghost use Rattle.text.specs.Split.{is_blank, blank_is, before, index_of, same, blanks, trim_end, trim, field_size, value_of, value_start};
+ghost use Rattle.text.specs.Split.{is_blank, index_of, same, blanks, trim_end, trim, field_size, value_of, value_start};
 
 use octets::read::part;
 
 // The space, the tab or the carriage return? (`|` takes all three tests without a branch.)
-fn is_blank(b: u8) -> bool
+pub(crate) fn is_blank(b: u8) -> bool
     ensures { result ≡ is_blank b }
 {
     (b == b' ') | (b == b'\t') | (b == b'\r')
 }
 
-// The first place of the byte b, or the length where it is not there.
+// The first place of the byte b, or the length where it is not there. (No Option: callers use it as the end of a piece.)
 pub fn index_of(s: &[u8], b: u8) -> usize
     ensures { (result ≡ index_of b s.now) × (result ≤ length s.now) }
 {
-    let mut i = 0;
-    while i < s.len() {
-        if s[i] == b {
-            return i;
-        }
-        i += 1;
-    }
-    i
+    s.iter().position(|x| *x == b).unwrap_or(s.len())
 }
 
 // The same bytes?
 pub fn same(a: &[u8], b: &[u8]) -> bool
     ensures { result ≡ same a.now b.now }
 {
-    if a.len() != b.len() {
-        return false;
-    }
-    let mut i = 0;
-    while i < a.len() {
-        if a[i] != b[i] {
-            return false;
-        }
-        i += 1;
-    }
-    true
+    a == b
 }
 
-// Is b a blank, where `blank` is true; is it none, where it is false?
-fn blank_is(b: u8, blank: bool) -> bool
-    ensures { result ≡ blank_is blank b }
+// How many blanks stand at the front.
+pub(crate) fn blanks(s: &[u8]) -> usize
+    ensures { (result ≡ blanks s.now) × (result ≤ length s.now) }
 {
-    if blank { is_blank(b) } else { !is_blank(b) }
+    s.iter().position(|b| !is_blank(*b)).unwrap_or(s.len())
 }
 
-// How many bytes stand before the first blank, or, where `blank` is false, before the first other byte.
-pub(crate) fn before_blank(s: &[u8], blank: bool) -> usize
-    ensures { (result ≡ before (blank_is blank) s.now) × (result ≤ length s.now) }
+// How many bytes stand before the first blank: so many has a line's field.
+fn field_size(s: &[u8]) -> usize
+    ensures { (result ≡ field_size s.now) × (result ≤ length s.now) }
 {
-    let mut i = 0;
-    while i < s.len() {
-        if blank_is(s[i], blank) {
-            return i;
-        }
-        i += 1;
-    }
-    i
+    s.iter().position(|b| is_blank(*b)).unwrap_or(s.len())
 }
 
 // How many bytes there are without the blanks at the end.
 fn trimmed_size(s: &[u8]) -> usize
     ensures { result ≡ length (trim_end s.now) }
 {
-    let mut n = s.len();
-    while 0 < n {
-        if !is_blank(s[n - 1]) {
-            return n;
-        }
-        n -= 1;
+    match s.iter().rposition(|b| !is_blank(*b)) {
+        Some(last) => last + 1,
+        None => 0,
     }
-    0
 }
 
 // The text without the blanks at its ends.
 pub fn trimmed(s: &[u8]) -> &[u8]
     ensures { Part s.entry result (blanks s.now) (length (trim s.now)) }
 {
-    let start = before_blank(s, false);
+    let start = blanks(s);
     let size = trimmed_size(&s[start..]);
     part(s, start, size)
 }
@@ -91,13 +63,13 @@ pub fn trimmed(s: &[u8]) -> &[u8]
 pub fn field_text(line: &[u8]) -> &[u8]
     ensures { Part line.entry result 0 (field_size line.now) }
 {
-    part(line, 0, before_blank(line, true))
+    part(line, 0, field_size(line))
 }
 
 // The value of a line: all that stands behind the field, without the blanks at its ends.
 pub fn value_of(line: &[u8]) -> &[u8]
     ensures { Part line.entry result (value_start line.now) (length (value_of line.now)) }
 {
-    let size = before_blank(line, true);
+    let size = field_size(line);
     trimmed(&line[size..])
 }

@@ -15,12 +15,12 @@ dot-returns t c = c.label.ensures ∙ sym (follows-more c.args.only c.args.s.now
 
 pub label-returns-then-not-is_label : goal.label-returns-then-not-is_label
 label-returns-then-not-is_label t c =
-    let n = c.next_dot-label_end in
+    let a = c.args in
     let no_label = sym c.is_label.ensures ∙ c.if-not-is_label.true in
-    sym (rw no_label at (labels_at c.args.only c.args.s.now.now c.args.at n.result n.ensures.0))
+    sym (rw no_label at (labels_at a.only a.s.now.now a.at c.first_dot.result c.first_dot.ensures.0))
 
 pub label-returns : goal.label-returns
 label-returns t c =
-    let n = c.next_dot-label_end in
+    let a = c.args in
     let a_label = sym c.is_label.ensures ∙ c.if-not-is_label.false in
-    c.dot.ensures ∙ sym (rw a_label at (labels_at c.args.only c.args.s.now.now c.args.at n.result n.ensures.0))
+    c.dot.ensures ∙ sym (rw a_label at (labels_at a.only a.s.now.now a.at c.first_dot.result c.first_dot.ensures.0))

@@ -9,7 +9,7 @@ counted : (n : ℕ) → n ≡ length (replicate {A = ℕ} n 0)
 counted n = sym (length-replicate {A = ℕ} n 0)
 
 pub slice_bounds-lay_table-end : goal.slice_bounds-lay_table-end
-slice_bounds-lay_table-end c = counted 524288
+slice_bounds-lay_table-end g c = counted 524288
 
 pub slice_bounds-scan_case-end-2 : goal.slice_bounds-scan_case-end-2
-slice_bounds-scan_case-end-2 c = counted 524288 ∙ sym c.lay_table.auto.mem
+slice_bounds-scan_case-end-2 g c = counted 524288 ∙ sym c.lay_table.auto.mem

@@ -1,0 +1,9 @@
+-- `put_nic_address` meets its contract: each value is written right behind the one before. Assumes nothing.
+use mathlib.Core.Path.{refl}
+use Rattle.host_test_exports.proofs.PutsLaws.{puts, behind}
+use Rattle.host_test_exports.proofs.nic.put_nic_address.Goals as goal
+
+pub returns : goal.returns
+returns c =
+    behind (puts refl c.put_byte.ensures)
+    (behind c.put_address.ensures (behind (puts refl c.put_byte-2.ensures) (puts refl c.put_byte-3.ensures)))

@@ -1,0 +1,5 @@
+-- `test_target` meets its contract: what the reading gives is written and packed. Assumes nothing.
+use Rattle.host_test_exports.proofs.target.test_target.Goals as goal
+
+pub returns : goal.returns
+returns c = record { value = cc; out_after = cc }

@@ -1,0 +1,10 @@
+-- `Target::field` meets its contract, number by number. Assumes nothing.
+use Prim.Native.Nat.{ℕ}
+use Rattle.ibft_layout.specs.Layout.{target, kind_field}
+use Rattle.ibft_layout.specs.Shapes.{field_shape}
+use Rattle.ibft_layout.proofs.LayoutLaws.{last_arm, field_past}
+use Rattle.ibft_layout.proofs.target.Target.field.Goals as goal
+
+pub returns-in_default : goal.returns-in_default
+unfolding kind_field
+returns-in_default c = last_arm (λ (n : ℕ). field_shape (kind_field target n)) 10 _ c.in_default.in_default-own.rest (λ h. field_past target _ h)

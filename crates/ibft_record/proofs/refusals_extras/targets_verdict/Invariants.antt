@@ -1,0 +1,12 @@
+use Rattle.std.proofs.Common.{◌≡◌, ◌+◌, ◌-◌}
+use Rattle.octets.specs.Counting.{gather}
+use Rattle.ibft_layout.specs.Layout.{extra_nics}
+use Rattle.table_header.specs.Verdict.{first_of}
+use Rattle.ibft_build_rules.specs.RecordRange.{nics_given, targets_given, target_image}
+use Rattle.ibft_build_rules.specs.Refusals.{index_tests}
+use Rattle.ibft_record.proofs.refusals_extras.targets_verdict.Given as goal
+
+abbrev pub invariant-loop-i : goal.invariant-loop-i
+invariant-loop-i l =
+    first_of (gather (index_tests l.range (target_image l.range) (extra_nics + nics_given l.range)) l.i (l.targets - l.i))
+    ≡ first_of (gather (index_tests l.range (target_image l.range) (extra_nics + nics_given l.range)) 0 (targets_given l.range))

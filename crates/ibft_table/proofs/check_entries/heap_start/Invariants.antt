@@ -1,0 +1,6 @@
+use Rattle.std.proofs.Common.{◌≡◌}
+use Rattle.ibft_table.specs.Table.{end_below}
+use Rattle.ibft_table.proofs.check_entries.heap_start.Given as goal
+
+abbrev pub invariant-loop-w : goal.invariant-loop-w
+invariant-loop-w l = l.heap ≡ end_below l.table.t.now l.w

@@ -1,0 +1,9 @@
+use Rattle.std.proofs.Common.{◌≡◌, ◌-◌}
+use Rattle.octets.specs.Counting.{gather}
+use Rattle.ibft_layout.specs.Layout.{named_count}
+use Rattle.table_header.specs.Verdict.{first_of}
+use Rattle.ibft_table.specs.Check.{overlap_tests}
+use Rattle.ibft_table.proofs.check_overlaps.check_named_overlaps.Given as goal
+
+abbrev pub invariant-loop-w : goal.invariant-loop-w
+invariant-loop-w l = first_of (gather (overlap_tests l.t) l.w (named_count - l.w)) ≡ first_of (gather (overlap_tests l.t) 0 named_count)

@@ -1,0 +1,50 @@
+-- `target_notation` meets its contract, number by number. Assumes nothing.
+use mathlib.Core.Path.{refl}
+use Rattle.ibft_layout.proofs.LayoutLaws.{last_arm}
+use Rattle.record_text.specs.Fields.{target, notation_in}
+use Rattle.record_text.proofs.FieldsLaws.{row, notation-past}
+use Rattle.record_text.proofs.fields.target_notation.Goals as goal
+
+pub returns-in_default : goal.returns-in_default
+unfolding notation_in
+returns-in_default c = last_arm (notation_in target) 10 _ c.in_default.in_default-own.rest (λ h. notation-past target _ h)
+
+pub returns-in-1 : goal.returns-in-1
+unfolding notation_in
+returns-in-1 c = row (notation_in target) 1 _ _ refl c.in-1.is
+
+pub returns-in-2 : goal.returns-in-2
+unfolding notation_in
+returns-in-2 c = row (notation_in target) 2 _ _ refl c.in-2.is
+
+pub returns-in-3 : goal.returns-in-3
+unfolding notation_in
+returns-in-3 c = row (notation_in target) 3 _ _ refl c.in-3.is
+
+pub returns-in-4 : goal.returns-in-4
+unfolding notation_in
+returns-in-4 c = row (notation_in target) 4 _ _ refl c.in-4.is
+
+pub returns-in-5 : goal.returns-in-5
+unfolding notation_in
+returns-in-5 c = row (notation_in target) 5 _ _ refl c.in-5.is
+
+pub returns-in-6 : goal.returns-in-6
+unfolding notation_in
+returns-in-6 c = row (notation_in target) 6 _ _ refl c.in-6.is
+
+pub returns-in-7 : goal.returns-in-7
+unfolding notation_in
+returns-in-7 c = row (notation_in target) 7 _ _ refl c.in-7.is
+
+pub returns-in-8 : goal.returns-in-8
+unfolding notation_in
+returns-in-8 c = row (notation_in target) 8 _ _ refl c.in-8.is
+
+pub returns-in-9 : goal.returns-in-9
+unfolding notation_in
+returns-in-9 c = row (notation_in target) 9 _ _ refl c.in-9.is
+
+pub returns-in-10 : goal.returns-in-10
+unfolding notation_in
+returns-in-10 c = row (notation_in target) 10 _ _ refl c.in-10.is

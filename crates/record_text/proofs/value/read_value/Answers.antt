@@ -1,0 +1,17 @@
+-- `read_value` meets its contract: the field's notation and width decide, and every field's width fits. Assumes nothing.
+use mathlib.Core.Path.{ap, ◌∙◌}
+use Rattle.record_text.specs.Fields.{group_of}
+use Rattle.notation.specs.Value.{value_read}
+use Rattle.record_text.specs.Value.{fits, value_bytes}
+use Rattle.record_text.specs.declared.fields.FieldLayout.{FieldLayout}
+use Rattle.record_text.proofs.ValueLaws.{field_fits}
+use Rattle.record_text.proofs.value.read_value.Goals as goal
+
+pub value_as-requires : goal.value_as-requires
+value_as-requires c = ap (λ (x : FieldLayout). fits x.notation x.width) c.field_at-field.ensures ∙ field_fits c.args.kind c.args.n
+
+pub returns : goal.returns
+returns c =
+    let a = c.args in
+    c.value_as.ensures
+    ∙ ap (λ (x : FieldLayout). value_read (value_bytes (group_of a.kind).flags x.notation x.width a.text.now)) c.field_at-field.ensures
