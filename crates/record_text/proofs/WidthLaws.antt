@@ -14,7 +14,7 @@ use Rattle.octets.specs.Octets.{le16}
 use Rattle.text.specs.Words.{word_number, word_count, read_word_set}
 use Rattle.notation.specs.Escape.{string_of}
 use Rattle.notation.specs.Pci.{read_pci}
-use Rattle.notation.proofs.WidthLaws.{unread, tested, address-width, mac-width}
+use Rattle.notation.proofs.WidthLaws.{no_value, tested, address-width, mac-width}
 use Rattle.notation.proofs.ValueLaws.{filled-width, mapped-width, number-width}
 use Rattle.record_text.specs.Fields.{group_of, field_of}
 use Rattle.record_text.specs.Value.{word_byte, fits, value_bytes, field_bytes}
@@ -43,7 +43,7 @@ value-width flags Address width text b s e = address-width text b e ∙ sym (eqb
 value-width flags Mac width text b s e = mac-width text b e ∙ sym (eqb-true width 6 s)
 value-width flags Pci width text b s e = mapped-width le16 2 (λ k. refl) (read_pci text) b e ∙ sym (eqb-true width 2 s)
 value-width flags Chap width text b s e = word_width _ text b e ∙ sym (eqb-true width 1 s)
-value-width flags Text width text b s e = unread e
+value-width flags Text width text b s e = no_value e
 
 pub field-width : (kind n : ℕ) (text b : List ℕ) → field_bytes kind n text ≡ Some b → length b ≡ (field_of kind n).width
 field-width kind n text b e =
