@@ -4,7 +4,8 @@
 --     number-first, number-last, number-next              a word's number, by the first word
 --     count-last, count_next                              how many words there are, by the first
 --     at_first, at_last, at_next                          the word of a number, by the first
---     number-found, number-most, word-shown               a word's number, and the word of a number
+--     number-found, number-before, number-most            a word's number, by its place and by the words before it
+--     word-shown                                          the word of a number
 --     non_empty-cons, tokens_none, tokens-next            the words of a text with blanks between
 --     with-unknown, with-high, with-twice, with-next      a word added to a set
 --     with_none, with-empty, with-stop, with-more         no word; the pieces of a text added, one by one
@@ -30,7 +31,8 @@ use Rattle.text.specs.Words.{words_of, word_number, word_count, word_at, place_o
 use Rattle.text.specs.Words.{chosen, set_text, spaced, listed}
 use Rattle.std.specs.Prelude.{Option, Some, None, unwrap_or, option_map, slice_get}
 use Rattle.std.specs.Borrow.{Bor}
-use Rattle.std.specs.List.{position, position_or_len, slice_split}
+use Rattle.std.specs.List.{position, position_or_len, slice_split, take_while}
+use Rattle.std.proofs.lemmas.List.Folds.{length-prefix_len}
 use Rattle.std.proofs.lemmas.Option.{unwrap_or-slice_get, none-some, same_Some}
 use Rattle.std.proofs.lemmas.List.Recursion.{is_position_or_len}
 use Rattle.std.proofs.lemmas.List.Splits.{length-slice_split}
@@ -100,6 +102,10 @@ module _ (list word : List ℕ) where
   -- its number is the place that `position` finds, or how many words there are
   pub number-found : (r : Option ℕ) → r ≡ position (λ w. same w word) (slice_split (is 32) list) → unwrap_or r (word_count list) ≡ word_number list word
   number-found r e = position-length (λ w. same w word) (words_of list) r (rw words_cut at e) ∙ sym number-place
+
+  -- its number is how many words `split` gives before it
+  pub number-before : length (take_while (λ w. not (same w word)) (slice_split (is 32) list)) ≡ word_number list word
+  number-before = rw words_cut (length-prefix_len (λ w. not (same w word)) (words_of list)) ∙ sym number-place
 
 -- the word that `nth` shows, or one of no bytes
 pub word-shown : (list : List ℕ) (n : ℕ) (r : Option (Bor (List ℕ))) (none : Bor (List ℕ)) → none.now ≡ []
