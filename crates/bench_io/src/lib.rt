@@ -1,4 +1,5 @@
-// What the bench programs share: the program's arguments, and a refusal as they print it. No public call here has a `requires`.
+// What the bench programs share: the program's arguments, where they write, and a refusal as they print it. No public call here
+// has a `requires`.
 #![tactic(auto)]
 
 ghost use Rattle.std.specs.Prelude.{◌≡◌, OnOk};
@@ -6,6 +7,8 @@ ghost use Rattle.std.specs.Io.KnownBytes.{Appends};
 ghost use Rattle.io.specs.Counts.{IsPrefixLen};
 ghost use Rattle.refusal_text.specs.RefusalText.{refusal_text};
 ghost use Rattle.bench_io.specs.Words.{hides};
+
+pub mod console;
 
 use octets::read::part;
 use refusal_text::{LINE_SIZE, put_refusal};

@@ -4,12 +4,14 @@
 // refused, 0 the left and 1 the right. `compare hide-secrets` shows no secret.
 #![tactic(auto)]
 
+use bench_io::console::Console;
 use bench_io::{LONGEST_TABLE, argument, hides};
 use difference_text::{LINE_SIZE, put_difference};
 use ibft_compare::compare::{compare, difference};
 use notation::number::read_number;
 use octets::read::part;
 use refusal_text::{SIDE_LINE_SIZE, put_side_refusal};
+use std::env::Env;
 use table_header::verdict::Refusal;
 use text::split::index_of;
 
@@ -102,13 +104,18 @@ fn compare_input(rt: &(impl Print + Eprint), input: &[u8], hide: bool) -> std::i
 }
 
 // With a word that it does not know it shows nothing. One byte more than is looked at is read, which tells a longer input.
-fn main(rt: HostRuntime) -> std::io::Result<()> {
+fn run(rt: &impl Env, console: &Console) -> std::io::Result<()> {
     let mut word = [0u8; 32];
-    let n = argument(&rt, 1, &mut word);
+    let n = argument(rt, 1, &mut word);
     let Some(hide) = hides(part(&word, 0, n)) else {
-        return eprintln!(rt; "compare: the one word that may follow is hide-secrets");
+        return eprintln!(console; "compare: the one word that may follow is hide-secrets");
     };
     let mut room = [0u8; LONGEST_SIZE_LINE + 2 * LONGEST_TABLE + 1];
     let n = io::read_full(0, &mut room);
-    compare_input(&rt, part(&room, 0, n), hide)
+    compare_input(console, part(&room, 0, n), hide)
+}
+
+fn main(rt: HostRuntime) {
+    // (The console gives no error.)
+    let _ = run(&rt, &Console);
 }

@@ -5,6 +5,7 @@
 
 ghost use Rattle.std.specs.Prelude.{◌≤◌};
 
+use bench_io::console::{Console, Stream};
 use bench_io::write_refusal;
 use family_text::enter::IMAGE_SIZE;
 use family_text::family::{Stray, family_of, stray_line};
@@ -23,7 +24,6 @@ use record_text::enter::{Reason, Unread, enter};
 use record_text::fields::{
     FieldName, INITIATOR_FLAGS, NIC_FLAGS, Notation, TARGET_FLAGS, field_at, plain_count, put_name,
 };
-use std::io::Stderr;
 use table_header::write::Written;
 
 // The most bytes that a text may have.
@@ -32,7 +32,7 @@ const LONGEST_TEXT: usize = 65536;
 // ---- why a value cannot be read
 
 // The largest number that a field of so many bytes holds.
-fn say_range(err: &Stderr, width: u8) -> std::io::Result<()> {
+fn say_range(err: &Stream, width: u8) -> std::io::Result<()> {
     let largest = match width {
         1 => u8::MAX as u64,
         2 => u16::MAX as u64,
@@ -42,7 +42,7 @@ fn say_range(err: &Stderr, width: u8) -> std::io::Result<()> {
 }
 
 // The flags that a kind has.
-fn say_flags(err: &Stderr, kind: u8) -> std::io::Result<()> {
+fn say_flags(err: &Stream, kind: u8) -> std::io::Result<()> {
     print!(err; "the value is not made of the words: ")?;
     if kind == Nic::ID {
         err.write_all(&NIC_FLAGS)?;
@@ -54,17 +54,17 @@ fn say_flags(err: &Stderr, kind: u8) -> std::io::Result<()> {
     println!(err)
 }
 
-fn say_no_string(err: &Stderr) -> std::io::Result<()> {
+fn say_no_string(err: &Stream) -> std::io::Result<()> {
     print!(err; "the value is not a string: a backslash starts \\\\ or \\xHH, ")?;
     println!(err; "bytes below 0x20 are written \\xHH, an empty string \"\"")
 }
 
-fn say_no_mac(err: &Stderr) -> std::io::Result<()> {
+fn say_no_mac(err: &Stream) -> std::io::Result<()> {
     println!(err; "the value is not a MAC address, as 02:00:5e:10:00:07")
 }
 
 // Why the value of the field cannot be read.
-fn say_unreadable(err: &Stderr, field: FieldName) -> std::io::Result<()> {
+fn say_unreadable(err: &Stream, field: FieldName) -> std::io::Result<()> {
     let layout = field_at(field.kind, field.field);
     let notation = layout.notation;
     match notation {
@@ -81,26 +81,26 @@ fn say_unreadable(err: &Stderr, field: FieldName) -> std::io::Result<()> {
     }
 }
 
-fn say_too_long(err: &Stderr, width: u8) -> std::io::Result<()> {
+fn say_too_long(err: &Stream, width: u8) -> std::io::Result<()> {
     println!(err; "the string has more than {width} bytes")
 }
 
-fn say_too_many(err: &Stderr, kind: u8) -> std::io::Result<()> {
+fn say_too_many(err: &Stream, kind: u8) -> std::io::Result<()> {
     if kind == Nic::ID {
         return println!(err; "a record has at most six NICs beyond nic0 and nic1");
     }
     println!(err; "a record has at most six targets beyond target0 and target1")
 }
 
-fn say_no_such_field(err: &Stderr) -> std::io::Result<()> {
+fn say_no_such_field(err: &Stream) -> std::io::Result<()> {
     println!(err; "there is no such field")
 }
 
-fn say_given_before(err: &Stderr) -> std::io::Result<()> {
+fn say_given_before(err: &Stream) -> std::io::Result<()> {
     println!(err; "this field was given before")
 }
 
-fn say_reason(err: &Stderr, unread: Unread) -> std::io::Result<()> {
+fn say_reason(err: &Stream, unread: Unread) -> std::io::Result<()> {
     let field = unread.field;
     match unread.reason {
         Reason::NoSuchField => say_no_such_field(err),
@@ -127,7 +127,7 @@ fn stray_at(text: &[u8], line: usize) -> Option<Stray> {
     stray_line(text).filter(|stray| stray.line == line)
 }
 
-fn say_stray(err: &Stderr, stray: Stray, family: u8) -> std::io::Result<()> {
+fn say_stray(err: &Stream, stray: Stray, family: u8) -> std::io::Result<()> {
     let of = family_name(stray.family);
     let text = family_name(family);
     println!(err;
@@ -136,7 +136,7 @@ fn say_stray(err: &Stderr, stray: Stray, family: u8) -> std::io::Result<()> {
     )
 }
 
-fn say_unread(err: &Stderr, text: &[u8], unread: Unread) -> std::io::Result<()> {
+fn say_unread(err: &Stream, text: &[u8], unread: Unread) -> std::io::Result<()> {
     if let Some(stray) = stray_at(text, unread.line) {
         return say_stray(err, stray, IBFT);
     }
@@ -196,7 +196,7 @@ fn string_field(range: &[u8], place: u32) -> FieldName {
 }
 
 // A field's name, and what is wrong with it.
-fn say_of(err: &Stderr, field: FieldName, wrong: &str) -> std::io::Result<()> {
+fn say_of(err: &Stream, field: FieldName, wrong: &str) -> std::io::Result<()> {
     let mut room = [0u8; 64];
     let end = put_name(&mut room, 0, field);
     err.write_all(part(&room, 0, end))?;
@@ -204,7 +204,7 @@ fn say_of(err: &Stderr, field: FieldName, wrong: &str) -> std::io::Result<()> {
 }
 
 // An OEM field that goes on behind a zero byte.
-fn say_oem(err: &Stderr, place: u32) -> std::io::Result<()> {
+fn say_oem(err: &Stream, place: u32) -> std::io::Result<()> {
     let field = FieldName {
         kind: 0,
         index: 0,
@@ -215,7 +215,7 @@ fn say_oem(err: &Stderr, place: u32) -> std::io::Result<()> {
 
 // The words of a refusal of the build. (The record range that `enter` makes has no reserved flag, no CHAP type above 2, no mark
 // but 0 and 1, its strings in the strings range, and the room holds every table: 10, 19, 21, 24 and 25 are not met here.)
-fn say_words(err: &Stderr, range: &[u8], number: u8, place: u32) -> std::io::Result<()> {
+fn say_words(err: &Stream, range: &[u8], number: u8, place: u32) -> std::io::Result<()> {
     let wrong = match number {
         8 => return say_oem(err, place),
         17 => "a name has at most 223 bytes, any other string 255",
@@ -227,26 +227,26 @@ fn say_words(err: &Stderr, range: &[u8], number: u8, place: u32) -> std::io::Res
 }
 
 // Builds the record's table and writes it.
-fn write_table(rt: &HostRuntime, range: &[u8], strings: &[u8]) -> std::io::Result<()> {
+fn write_table(console: &Console, range: &[u8], strings: &[u8]) -> std::io::Result<()> {
     let mut room = [0u8; LARGEST_LENGTH as usize];
     let built = build(range, strings, &mut room);
     let refusal = built.refusal;
     if refusal.number != 0 {
-        write_refusal(&mut rt.stderr(), refusal)?;
-        return say_words(&rt.stderr(), range, refusal.number, refusal.place);
+        write_refusal(&mut std::io::writer(&Stream::Errors), refusal)?;
+        return say_words(&Stream::Errors, range, refusal.number, refusal.place);
     }
-    rt.write_all(part(&room, 0, built.length as usize))
+    console.write_all(part(&room, 0, built.length as usize))
 }
 
-fn enter_ibft(rt: &HostRuntime, text: &[u8]) -> std::io::Result<()> {
+fn enter_ibft(console: &Console, text: &[u8]) -> std::io::Result<()> {
     let mut range = [0u8; LARGEST_SIZE as usize];
     let mut strings = [0u8; 16384];
     let entered = enter(text, &mut range, &mut strings);
     if let Err(unread) = entered.read {
-        return say_unread(&rt.stderr(), text, unread);
+        return say_unread(&Stream::Errors, text, unread);
     }
     write_table(
-        rt,
+        console,
         part(&range, 0, entered.size),
         part(&strings, 0, entered.used),
     )
@@ -255,7 +255,7 @@ fn enter_ibft(rt: &HostRuntime, text: &[u8]) -> std::io::Result<()> {
 // ---- an aBFT or an sBFT
 
 // (Six pairs are a MAC address.)
-fn say_no_pairs(err: &Stderr, width: u8) -> std::io::Result<()> {
+fn say_no_pairs(err: &Stream, width: u8) -> std::io::Result<()> {
     if width == 6 {
         return say_no_mac(err);
     }
@@ -263,7 +263,7 @@ fn say_no_pairs(err: &Stderr, width: u8) -> std::io::Result<()> {
 }
 
 // Why the value of field n of the family cannot be read.
-fn say_image_unreadable(err: &Stderr, family: u8, n: u8) -> std::io::Result<()> {
+fn say_image_unreadable(err: &Stream, family: u8, n: u8) -> std::io::Result<()> {
     let layout = family_text::fields::field_at(family, n);
     let notation = layout.notation;
     match notation {
@@ -277,7 +277,7 @@ fn say_image_unreadable(err: &Stderr, family: u8, n: u8) -> std::io::Result<()> 
 }
 
 fn say_image_reason(
-    err: &Stderr,
+    err: &Stream,
     family: u8,
     unread: family_text::enter::Unread,
 ) -> std::io::Result<()> {
@@ -293,7 +293,7 @@ fn say_image_reason(
 }
 
 fn say_image_unread(
-    err: &Stderr,
+    err: &Stream,
     family: u8,
     text: &[u8],
     unread: family_text::enter::Unread,
@@ -313,36 +313,41 @@ fn write_image(family: u8, image: &[u8], room: &mut [u8]) -> Written {
 }
 
 // Writes the table of the image. (The room holds every table, so an OEM field is all that can be refused.)
-fn write_family(rt: &HostRuntime, family: u8, image: &[u8]) -> std::io::Result<()> {
+fn write_family(console: &Console, family: u8, image: &[u8]) -> std::io::Result<()> {
     let mut room = [0u8; IMAGE_SIZE];
     let written = write_image(family, image, &mut room);
     let refusal = written.refusal;
     if refusal.number != 0 {
-        write_refusal(&mut rt.stderr(), refusal)?;
-        return say_oem(&rt.stderr(), refusal.place);
+        write_refusal(&mut std::io::writer(&Stream::Errors), refusal)?;
+        return say_oem(&Stream::Errors, refusal.place);
     }
-    rt.write_all(part(&room, 0, written.length as usize))
+    console.write_all(part(&room, 0, written.length as usize))
 }
 
-fn enter_family(rt: &HostRuntime, family: u8, text: &[u8]) -> std::io::Result<()> {
+fn enter_family(console: &Console, family: u8, text: &[u8]) -> std::io::Result<()> {
     let mut image = [0u8; IMAGE_SIZE];
     if let Err(unread) = family_text::enter::enter(family, text, &mut image) {
-        return say_image_unread(&rt.stderr(), family, text, unread);
+        return say_image_unread(&Stream::Errors, family, text, unread);
     }
-    write_family(rt, family, &image)
+    write_family(console, family, &image)
 }
 
 // One byte more than a text may have is read, which tells a longer one.
-fn main(rt: HostRuntime) -> std::io::Result<()> {
+fn run(console: &Console) -> std::io::Result<()> {
     let mut input = [0u8; LONGEST_TEXT + 1];
     let n = io::read_full(0, &mut input);
     if LONGEST_TEXT < n {
-        return eprintln!(rt; "enter: the text has more than {LONGEST_TEXT} bytes");
+        return eprintln!(console; "enter: the text has more than {LONGEST_TEXT} bytes");
     }
     let text = part(&input, 0, n);
     let family = family_of(text);
     if family == IBFT {
-        return enter_ibft(&rt, text);
+        return enter_ibft(console, text);
     }
-    enter_family(&rt, family, text)
+    enter_family(console, family, text)
+}
+
+fn main() {
+    // (The console gives no error.)
+    let _ = run(&Console);
 }

@@ -1,5 +1,6 @@
 -- Laws of the fields' data, for code that knows them family by family.
 --     row                          a value by number, where the number is known
+--     none_below                   a number that is none of the first k
 --     fields-sbft, fields-abft     the fields of a family, by the test of the code
 --     each_at, field-each          what holds of every field of both families
 --     count-few                    a family has at most nine fields
@@ -20,6 +21,15 @@ use Rattle.family_text.specs.declared.fields.FieldLayout.{FieldLayout}
 
 pub row {ℓ} : {A : Type ℓ} (f : ℕ → A) (m n : ℕ) (r : A) → r ≡ f m → n ≡ m → r ≡ f n
 row f m n r e k = e ∙ ap f (sym k)
+
+-- n is none of the numbers below k, as the last arm of a `match` has it
+abbrev NoneBelow : ℕ → ℕ → Type 0
+NoneBelow n zero = Unit
+NoneBelow n (suc k) = NoneBelow n k × (n ≡ k → ⊥)
+
+pub none_below : (n k : ℕ) → NoneBelow n k → k ≤ n
+none_below n zero none = omega arith
+none_below n (suc k) none = omega (arith, none_below n k none.0, none.1)
 
 pub fields-sbft : (family : ℕ) → family ≡ sbft → fields_of family ≡ sbft_fields
 unfolding fields_of

@@ -1,10 +1,12 @@
 -- Laws of values read: the bytes that the definition gives are as many as the field has.
 --     field_fits, number-few, oem-width, pairs-fit     every field has a width that its notation can have
 --     number-same                                      a number's bytes, as `notation` has them
+--     number_read, number-unread                       the bytes of a number that is read, or not
+--     address-read                                     an address
 --     value-width, field-width                         the bytes of a value are as many as its field has
 -- Assumes nothing.
 use Rattle.std.proofs.Common.{◌≡◌, ℕ, ◌-◌, ◌^◌, ◌≤◌, List, Bool, true, length, take, leb, refl, sym, ap, ◌∙◌, arith, ne_eqb}
-use Rattle.std.specs.Prelude.{Some}
+use Rattle.std.specs.Prelude.{Option, None, Some, option_map}
 use native.Mathlib.Decide.{dec_le, ℕ_discrete}
 use borrow.Author.Tests.{leb-true, eqb-true}
 use lib.Seq.{length-take-le}
@@ -14,9 +16,9 @@ use Rattle.octets.proofs.TestLaws.{and_both}
 use Rattle.text.specs.Split.{each}
 use Rattle.notation.specs.Number.{number_up_to}
 use Rattle.notation.specs.Escape.{string_of}
-use Rattle.notation.specs.Value.{is_width, number_bytes as all_bytes}
+use Rattle.notation.specs.Value.{is_width, number_bytes as all_bytes, value_read}
 use Rattle.notation.proofs.WidthLaws.{address-width, pairs-width}
-use Rattle.notation.proofs.ValueLaws.{filled-width, mapped-width}
+use Rattle.notation.proofs.ValueLaws.{sixteen-whole, filled-width, mapped-width}
 use Rattle.family_text.specs.Fields.{field_of}
 use Rattle.family_text.specs.declared.fields.Notation.{Notation}
 use Rattle.family_text.specs.declared.fields.Notation.TheVariants.{Oem, Number as NumberField, Pairs, Address}
@@ -71,6 +73,31 @@ number-same width text e =
       | yes h ↦ rw h (refl, refl)
       | no h ↦ let two : width ≡ 2 = sym (number-two width e h) in rw two (refl, refl)
     ]
+
+-- what a number that is read says of its bytes
+abbrev of_number : ℕ → Option ℕ → Option (List ℕ)
+of_number width (Some n) = value_read (Some (take width (le16 n)))
+of_number width None = value_read None
+
+of-number : (width : ℕ) (o : Option ℕ) → of_number width o ≡ value_read (option_map (λ (n : ℕ). take width (le16 n)) o)
+of-number width None = refl
+of-number width (Some n) = refl
+
+-- the bytes of a number that was read, and none where none was
+pub number_read : (width n : ℕ) (text : List ℕ) → Some n ≡ number_up_to (256 ^ width - 1) text
+    → value_read (Some (take width (le16 n))) ≡ value_read (number_bytes width text)
+unfolding number_bytes
+number_read width n text e = ap (of_number width) e ∙ of-number width (number_up_to (256 ^ width - 1) text)
+
+pub number-unread : (width : ℕ) (text : List ℕ) → None ≡ number_up_to (256 ^ width - 1) text → value_read None ≡ value_read (number_bytes width text)
+unfolding number_bytes
+number-unread width text e = ap (of_number width) e ∙ of-number width (number_up_to (256 ^ width - 1) text)
+
+-- ---- addresses
+
+-- what is read of an address is its 16 bytes
+pub address-read : (o a : Option (List ℕ)) → a ≡ o → ((b : List ℕ) → o ≡ Some b → length b ≡ 16) → a ≡ value_read o
+address-read o a e size = e ∙ sixteen-whole o size
 
 -- ---- the bytes of a value are as many as its field has
 

@@ -9,6 +9,7 @@ ghost use Rattle.std.specs.Prelude.{◌≡◌, ℕ, ◌+◌, ◌^◌, ◌≤◌,
 ghost use Rattle.octets.specs.Counting.{first};
 ghost use Rattle.octets.specs.Octets.{byte, differs};
 
+use bench_io::console::{Console, Stream};
 use bench_io::{argument, write_refusal};
 use notation::number::read_number;
 use octets::read::part;
@@ -142,17 +143,17 @@ fn refused(number: u8) -> Refusal {
 }
 
 // A refusal goes to standard error where the table's bytes would go to standard output.
-fn tell_refusal(rt: &HostRuntime, number: u8, bytes: bool) -> std::io::Result<()> {
+fn tell_refusal(console: &Console, number: u8, bytes: bool) -> std::io::Result<()> {
     if bytes {
-        return write_refusal(&mut rt.stderr(), refused(number));
+        return write_refusal(&mut std::io::writer(&Stream::Errors), refused(number));
     }
-    write_refusal(&mut rt.stdout(), refused(number))
+    write_refusal(&mut std::io::writer(&Stream::Output), refused(number))
 }
 
 // What is found in the memory that starts at the address. (No dump goes past the end of the iBFT's window, which is the
 // highest.)
 fn answer(
-    rt: &HostRuntime,
+    console: &Console,
     wanted: Wanted,
     memory: &[u8],
     address: u64,
@@ -160,30 +161,30 @@ fn answer(
 ) -> std::io::Result<()> {
     let scanned = scan_for(Family::IBFT, memory, address);
     if scanned.number == 1 {
-        return tell_refusal(rt, 1, bytes);
+        return tell_refusal(console, 1, bytes);
     }
-    if tell_wanted(rt, wanted, memory, address, bytes)? {
+    if tell_wanted(console, wanted, memory, address, bytes)? {
         return Ok(());
     }
-    tell_refusal(rt, 2, bytes)?;
-    tell_zeros(rt, memory, address)
+    tell_refusal(console, 2, bytes)?;
+    tell_zeros(console, memory, address)
 }
 
 // Reads the dump into the memory and looks through it.
 fn find_in(
-    rt: &HostRuntime,
+    console: &Console,
     memory: &mut [u8],
     wanted: Wanted,
     address: u64,
     bytes: bool,
 ) -> std::io::Result<()> {
     let n = io::read_full(0, memory);
-    answer(rt, wanted, part(memory, 0, n), address, bytes)
+    answer(console, wanted, part(memory, 0, n), address, bytes)
 }
 
-fn find(rt: &HostRuntime, wanted: Wanted, address: u64, bytes: bool) -> std::io::Result<()> {
+fn find(console: &Console, wanted: Wanted, address: u64, bytes: bool) -> std::io::Result<()> {
     let mut memory = [0u8; MEMORY_SIZE];
-    find_in(rt, &mut memory, wanted, address, bytes)
+    find_in(console, &mut memory, wanted, address, bytes)
 }
 
 fn family_named(name: &[u8]) -> Option<Wanted> {
@@ -208,14 +209,19 @@ fn wants_bytes(rt: &impl Env) -> bool {
     same(part(&text, 0, n), b"bytes")
 }
 
-fn main(rt: HostRuntime) -> std::io::Result<()> {
+fn run(rt: &impl Env, console: &Console) -> std::io::Result<()> {
     let mut text = [0u8; 32];
-    let n = argument(&rt, 1, &mut text);
+    let n = argument(rt, 1, &mut text);
     let Some(address) = read_number(u64::MAX, part(&text, 0, n)) else {
-        return eprintln!(rt; "find: give the address of the dump's first byte, as 0x9f000");
+        return eprintln!(console; "find: give the address of the dump's first byte, as 0x9f000");
     };
-    let Some(wanted) = wanted_family(&rt) else {
-        return eprintln!(rt; "find: the families are ibft, abft and sbft");
+    let Some(wanted) = wanted_family(rt) else {
+        return eprintln!(console; "find: the families are ibft, abft and sbft");
     };
-    find(&rt, wanted, address, wants_bytes(&rt))
+    find(console, wanted, address, wants_bytes(rt))
+}
+
+fn main(rt: HostRuntime) {
+    // (The console gives no error.)
+    let _ = run(&rt, &Console);
 }

@@ -1,26 +1,27 @@
 -- Laws of the entries that a record range gives.
---     limit-most                the limit that code is lent is no more than all entries
+--     limit-most, limit-below   the limit that code is lent is no more than all entries, so each below it is an entry
 --     entry-some, entry-none    an entry that is present, and one that is missing
 --     entries-past              from the limit on entries are missing
 --     field-on, field_past      where the range holds its words, as the code returns it; from the limit on nowhere
---     fields_at                 what stands in the list of these
+--     fields_at, fields-count   what stands in the list of these
 --     start_is, length-is       its start and its length, as the code reads them
 --     wanted-on, wanted-off     what it wants in the heap, as the code returns it
 --     wanted-past               from the limit on nothing
---     wanted-at, wanted-there   what stands in the list of these
---     bytes-length              how long its bytes are
---     lies_at                   an entry that wants something is present, and its bytes are as long as it wants
+--     wanted-at, wanted-there, wanted-count     what stands in the list of these
+--     bytes-length, bytes-part  how long its bytes are, and where they stand
+--     lies_at                   an entry that wants something is present, lies in the strings range, and its bytes are as long
+--                               as it wants
 -- Assumes nothing.
 use Rattle.std.specs.Prelude.{None, Some}
-use mathlib.Core.Path.{◌≡◌, refl, sym, ap, ◌∙◌}
+use mathlib.Core.Path.{◌≡◌, refl, sym, ap, ap₂, ◌∙◌}
 use mathlib.Core.Bool.{Bool, true, false, cond}
 use mathlib.Core.List.{List}
 use Prim.Native.Nat.{ℕ, ◌+◌, ◌-◌, ◌≤◌, ◌<◌}
 use native.Mathlib.Omega.{arith}
 use lib.ListN.{length, get_or}
 use borrow.Author.Tests.{lt-ltb, le-ltb}
-use Rattle.octets.proofs.CountingLaws.{get_d_tabulate}
-use Rattle.octets.specs.Octets.{word16}
+use Rattle.octets.proofs.CountingLaws.{length-tabulate, get_d_tabulate}
+use Rattle.octets.specs.Octets.{word16, part}
 use Rattle.octets.proofs.ReadLaws.{part_length}
 use Rattle.ibft_layout.specs.Layout.{entry_count, owner_of, string_of}
 use Rattle.ibft_table.specs.Record.{shown_if}
@@ -31,6 +32,9 @@ use Rattle.ibft_record.proofs.RecordLaws.{entry_past, entry-limit-most}
 
 pub limit-most : (r : List ℕ) (limit : ℕ) → limit ≡ entry_limit r → limit ≤ entry_count
 limit-most r limit e = omega (arith, entry-limit-most r)
+
+pub limit-below : (r : List ℕ) (n : ℕ) → n < entry_limit r → n < entry_count
+limit-below r n h = omega (arith, entry-limit-most r)
 
 module _ (r s : List ℕ) (n : ℕ) where
   pub entry-some : entry_given r n ≡ true → entries_given r s n ≡ Some (bytes_given r s n)
@@ -61,6 +65,10 @@ module _ (r : List ℕ) (n : ℕ) where
   length-is f v at e = e ∙ ap (word16 r) at
 
 module _ (r fields : List ℕ) (are : fields ≡ entry_fields r) where
+  pub fields-count : length fields ≡ entry_count
+  unfolding entry_fields
+  fields-count = ap length are ∙ length-tabulate (field_given r) 0 entry_count
+
   pub fields_at : (n : ℕ) → n < entry_limit r → get_or fields n 0 ≡ image_at r (owner_of n) + (string_of n).at
   unfolding entry_fields
   fields_at n h =
@@ -105,6 +113,10 @@ wanted-at r wanted e n h = ap (λ (l : List ℕ). get_or l n 0) e ∙ get_d_tabu
 pub wanted-there : (r wanted : List ℕ) → wanted ≡ wanted_sizes r → (n : ℕ) → n < entry_count → entry_given r n ≡ true → get_or wanted n 0 ≡ length_given r n + 1
 wanted-there r wanted e n h on = wanted-at r wanted e n h ∙ sym (wanted-on r n on (length_given r n) refl)
 
+pub wanted-count : (r wanted : List ℕ) → wanted ≡ wanted_sizes r → length wanted ≡ entry_count
+unfolding wanted_sizes
+wanted-count r wanted e = ap length e ∙ length-tabulate (wanted_given r) 0 entry_count
+
 -- ---- its bytes
 
 pub bytes-length : (r s : List ℕ) (n : ℕ) → Readable r s → n < entry_count → entry_given r n ≡ true → length (bytes_given r s n) ≡ length_given r n
@@ -115,6 +127,7 @@ bytes-length r s n sound h on = part_length s (start_given r n) (length_given r 
 pub record Lies (r s : List ℕ) (n w : ℕ) : Type 0 where
   pub given : entry_given r n ≡ true
   pub is : entries_given r s n ≡ Some (bytes_given r s n)
+  pub fits : start_given r n + (w - 1) ≤ length s
   pub length-is : length (bytes_given r s n) ≡ w - 1
   pub small : w ≤ 256
 
@@ -125,6 +138,16 @@ lies_at r s n sound h w e pos =
     record {
       given = on;
       is = entry-some r s n on;
+      fits = omega (arith, sound.lies n h on);
       length-is = omega (arith, bytes-length r s n sound h on);
       small = omega (arith, sound.short n h on);
     }
+
+-- its bytes, from where they start and as many as it wants, without the zero behind them
+pub bytes-part : (r s : List ℕ) (n : ℕ) → Readable r s → n < entry_count → (w start : ℕ) → w ≡ wanted_given r n → 0 < w → start ≡ start_given r n
+    → part s start (w - 1) ≡ bytes_given r s n
+unfolding bytes_given
+bytes-part r s n sound h w start e pos at =
+    let on = wanted-given r n (omega arith) in
+    let long : w - 1 ≡ length_given r n = omega (arith, wanted-on r n on (length_given r n) refl) in
+    ap₂ (λ (a m : ℕ). part s a m) at long

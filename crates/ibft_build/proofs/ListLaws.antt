@@ -1,6 +1,6 @@
 -- Laws of lists made by counting.
---     tabulate-more, tabulate-done              a loop that sets one element after the other
---     filled_none, filled_more, filled-done     one that may stop early, since the others are 0
+--     tabulate-more, tabulate-done                            a loop that sets one element after the other
+--     filled_none, filled-zeros, filled_more, filled-done     one that may stop early, since the others are 0
 -- Assumes nothing.
 use mathlib.Core.Path.{◌≡◌, refl, sym, ◌∙◌}
 use mathlib.Core.List.{List}
@@ -38,6 +38,9 @@ zeros-at (suc n) (suc j) = zeros-at n j
 
 pub filled_none : (f : ℕ → ℕ) (n : ℕ) → Filled f n 0 (replicate n 0)
 filled_none f n = record { long = length-replicate n 0; made = λ j l. absurd (omega arith); rest = λ j l. zeros-at n j }
+
+pub filled-zeros : (f : ℕ → ℕ) (n : ℕ) (a : List ℕ) → a ≡ replicate n 0 → Filled f n 0 a
+filled-zeros f n a e = rw e (filled_none f n)
 
 module _ (f : ℕ → ℕ) (n : ℕ) (a : List ℕ) (k : ℕ) (filled : Filled f n k a) where
   pub filled_more : k < n → (v : ℕ) → v ≡ f k → Filled f n (k + 1) (set a k v)

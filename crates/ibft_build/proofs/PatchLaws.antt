@@ -6,7 +6,7 @@
 --     fills-three    three writes that fill a stretch
 --     gather-add, gather-length                   lists behind one another
 --     gather-given                                those of the first so many numbers, where the others have none
---     gather_none, gather-next                    a loop that writes them
+--     gather_none, gather-next, gather-done       a loop that writes them
 -- Assumes nothing.
 use mathlib.Core.Path.{◌≡◌, sym, ap, ap₂, ◌∙◌}
 use mathlib.Core.Bool.{Bool, cond}
@@ -102,3 +102,6 @@ module _ (f : ℕ → List ℕ) (k at : ℕ) (t : List ℕ) where
       ∙ ap (λ (j : ℕ). write t at (gather f k n ++ f j)) ei
       ∙ ap (write t at) (sym (gather-last f k n))
       ∙ ap (λ (m : ℕ). write t at (gather f k m)) (sym (add-one n))
+
+  pub gather-done : (n m : ℕ) (u : List ℕ) → u ≡ write t at (gather f k n) → n ≡ m → u ≡ write t at (gather f k m)
+  gather-done n m u e same = e ∙ ap (λ (i : ℕ). write t at (gather f k i)) same

@@ -1,8 +1,9 @@
 -- Laws of where entries stand, each shaped like what the code returns.
 --     sum-none, sum_more                   a loop that adds up
---     sizes-at                             what stands in the list of the sizes
+--     sizes-at, sizes-count                what stands in the list of the sizes
+--     sizes-sum                            their sum is the heap's up to there
 --     size-kept, size-gone                 whether an entry is stored, by what it takes
---     holder-not, holder-tail     whether an entry can hold one that is not stored
+--     holder-not, holder-secret, holder-tail     whether an entry can hold one that is not stored
 --     gone-shares                          an entry that is present and not stored may share
 --     holder-first                           the first that holds it, which is below the limit
 --     place-self, place-holder               where an entry stands
@@ -20,7 +21,7 @@ use borrow.Author.Tests.{eqb-true, not-false}
 use lib.Dec.{eqb}
 use lib.ListN.{length, get_or}
 use Rattle.octets.specs.Counting.{any, first, sum_to}
-use Rattle.octets.proofs.CountingLaws.{clash, first-is, get_d_tabulate}
+use Rattle.octets.proofs.CountingLaws.{clash, first-is, length-tabulate, get_d_tabulate}
 use Rattle.octets.proofs.CutLaws.{first-cut}
 use Rattle.octets.proofs.TestLaws.{and_both, and_no}
 use Rattle.string_heap.specs.Tails.{is_tail}
@@ -49,6 +50,11 @@ pub sum_more : (f : ℕ → ℕ) (i s v : ℕ) → s ≡ sum_to i f → v ≡ f 
 unfolding sum_to
 sum_more f i s v p q = ap₂ (λ (x y : ℕ). x + y) p q ∙ ap (λ (k : ℕ). sum_to k f) (sym (add-one i))
 
+sum_same : (f g : ℕ → ℕ) (k : ℕ) → ((j : ℕ) → j < k → f j ≡ g j) → sum_to k f ≡ sum_to k g
+unfolding sum_to
+sum_same f g zero h = refl
+sum_same f g (suc k) h = ap₂ (λ (x y : ℕ). x + y) (sum_same f g k (λ j l. h j (omega arith))) (h k (omega arith))
+
 sum-const : (c k : ℕ) → sum_to k (λ (j : ℕ). c) ≡ k * c
 unfolding sum_to
 sum-const c zero = omega arith
@@ -60,6 +66,13 @@ module _ (r s sizes : List ℕ) (are : sizes ≡ heap_sizes r s) where
   pub sizes-at : (n : ℕ) → n < entry_count → get_or sizes n 0 ≡ size_given r s n
   unfolding heap_sizes
   sizes-at n h = ap (λ (l : List ℕ). get_or l n 0) are ∙ get_d_tabulate (size_given r s) entry_count n 0 h
+
+  pub sizes-count : length sizes ≡ entry_count
+  unfolding heap_sizes
+  sizes-count = ap length are ∙ length-tabulate (size_given r s) 0 entry_count
+
+  pub sizes-sum : (k : ℕ) → k ≤ entry_count → (m : ℕ) → m ≡ sum_to k (λ (j : ℕ). get_or sizes j 0) → m ≡ sum_to k (size_given r s)
+  sizes-sum k h m e = e ∙ sum_same (λ (j : ℕ). get_or sizes j 0) (size_given r s) k (λ j l. sizes-at j (omega arith))
 
 module _ (r s : List ℕ) (n : ℕ) where
   pub size-kept : 0 < size_given r s n → stored entry_count may_share (entries_given r s) n ≡ true
@@ -130,6 +143,9 @@ module _ (r s : List ℕ) (sound : Readable r s) (a : List ℕ) (j : ℕ) (h : j
       let lies = size-lies r s j sound h w takes (omega arith) in
       is ∙ ap (is_tail a) eb
       ∙ sym (rw (size-kept r s j (omega arith), lies.is, may) (and-true (is_tail a (bytes_given r s j))))
+
+pub holder-secret : (r s a : List ℕ) (j : ℕ) → may_share j ≡ false → false ≡ can_hold r s a j
+holder-secret r s a j alone = sym (and_no (stored entry_count may_share (entries_given r s) j && ends_with a (entries_given r s j)) (may_share j) (λ held. alone))
 
 -- an entry that is present and not stored may share
 gone-shares : (r s : List ℕ) (i : ℕ) → entry_given r i ≡ true → stored entry_count may_share (entries_given r s) i ≡ false → may_share i ≡ true

@@ -1,11 +1,13 @@
 -- Laws of where structures stand.
+--     built-past, built-below   the build's order names slots only
 --     extra-turn                the turns of extras: from 3 to 8 and from 11 on
---     after-off                 the end behind an absent structure, as the code returns it
+--     turn-le, turn-past        a slot's turn; past the last slot
+--     after_on, after-off       the end behind one more structure, as the code returns it
 --     end-first, end_more       the end before any structure, and behind one more
 --     present-given, extras-built, end-built, start-built     the content's structures, extras and places are the range's
 --     end-grows, end-bound      ends grow, and none lies far out
 --     Ended, ended-small, ended-more   the list of the ends, made up to the j-th
---     ends_at, ends-bound       what stands in the list of the ends
+--     ends_at, ends-count, ends-bound     what stands in the list of the ends
 --     start-on, start-off       the start of a structure, as the code returns it
 -- Assumes nothing.
 use mathlib.Core.Path.{◌≡◌, refl, sym, ap, ap₂, ◌∙◌}
@@ -13,17 +15,19 @@ use mathlib.Core.Bool.{Bool, true, false, cond, not, ◌&&◌, ◌||◌}
 use mathlib.Core.List.{List, []}
 use Prim.Native.Nat.{ℕ, zero, suc, ◌+◌, ◌≤◌, ◌<◌}
 use native.Mathlib.Numerals.{add-one}
+use native.Mathlib.Decide.{dec_lt}
 use native.Mathlib.Omega.{arith}
-use lib.Dec.{ltb, leb}
-use lib.ListN.{length, get_or, set, length-set}
-use borrow.Author.Tests.{le-ltb, leb-true}
+use lib.Dec.{eqb, ltb, leb}
+use lib.ListN.{length, get_or, get_or-eq_default, set, length-set}
+use borrow.Author.Tests.{ne_eqb, le-ltb, leb-true}
 use Rattle.octets.specs.Counting.{any, count}
-use Rattle.octets.proofs.CountingLaws.{each_holds, get_d_tabulate}
+use Rattle.octets.proofs.CountingLaws.{each_holds, first-le, first-is, length-tabulate, get_d_tabulate}
 use Rattle.octets.proofs.TestLaws.{and_no}
 use Rattle.string_heap.specs.Starts.{align8, end_to}
-use Rattle.ibft_layout.specs.Layout.{kind_of, slot_count, named_count, most_words, control_end, built_slot}
+use Rattle.ibft_layout.specs.Layout.{kind_of, slot_count, named_count, most_words, control_end, built_order, built_slot}
 use Rattle.ibft_table.specs.Record.{shown_if}
 use Rattle.ibft_table.specs.Computing.{computing}
+use Rattle.ibft_table_laws.proofs.LayoutLaws.{built-fits}
 use Rattle.ibft_build_rules.specs.RecordRange.{structure_given, content_given}
 use Rattle.ibft_build_rules.specs.Plan.{is_present, extras_built, turn_of, end_built, start_built, heap_start}
 use Rattle.ibft_build_rules.proofs.BoundLaws.{heap-start-bound}
@@ -33,6 +37,17 @@ use Rattle.ibft_build.specs.Planning.{end_given, structure_ends, structure_start
 use Rattle.ibft_build.proofs.ListLaws.{tabulate-more}
 
 -- ---- the build's order
+
+pub built-past : (j : ℕ) → slot_count ≤ j → built_slot j ≡ built_slot 0
+unfolding built_slot
+built-past j h = get_or-eq_default built_order 0 {n = j} h
+
+pub built-below : (j : ℕ) → built_slot j < slot_count
+built-below j =
+    elim (dec_lt j slot_count) [
+      | yes l ↦ (built-fits j l).slot
+      | no l ↦ omega (arith, built-past j (omega arith), (built-fits 0 (omega arith)).slot)
+    ]
 
 turns-extra : any slot_count (λ (j : ℕ). not (ltb j 3 || (leb 9 j && ltb j 11) || leb named_count (built_slot j))) ≡ false
 unfolding computing
@@ -47,10 +62,24 @@ extra-turn j low high apart =
     middle : (leb 9 j && ltb j 11) ≡ false
     middle = and_no (leb 9 j) (ltb j 11) (λ e. le-ltb j 11 (apart (leb-true 9 j e)))
 
+pub turn-le : (k : ℕ) → turn_of k ≤ slot_count
+unfolding turn_of
+turn-le k = first-le slot_count _
+
+pub turn-past : (k : ℕ) → slot_count ≤ k → slot_count ≡ turn_of k
+unfolding turn_of
+turn-past k h =
+    sym (first-is slot_count (λ (j : ℕ). eqb (built_slot j) k) slot_count (omega arith)
+    (λ j l. ne_eqb (built_slot j) k (λ e. omega (arith, built-below j))) (λ l. absurd (omega arith)))
+
 -- ---- ends
 
--- k is the slot that the code looks up
+-- k is the slot that the code looks up, l its structure's length, v the next multiple of 8 behind e
 module _ (r : List ℕ) (j k e : ℕ) (slot : k ≡ built_slot j) where
+  pub after_on : structure_given r k ≡ true → (v l : ℕ) → v ≡ align8 e → l ≡ (kind_of k).length
+      → v + l ≡ cond (structure_given r (built_slot j)) (align8 e + (kind_of (built_slot j)).length) e
+  after_on on v l p q = rw (← slot, on) (ap₂ (λ (x y : ℕ). x + y) p q)
+
   pub after-off : structure_given r k ≡ false → e ≡ cond (structure_given r (built_slot j)) (align8 e + (kind_of (built_slot j)).length) e
   after-off off = rw (← slot, off)
 
@@ -120,6 +149,10 @@ module _ (r ends : List ℕ) (are : ends ≡ structure_ends r) where
   pub ends_at : (j : ℕ) → j ≤ slot_count → get_or ends j 0 ≡ end_given r j
   unfolding structure_ends
   ends_at j h = ap (λ (l : List ℕ). get_or l j 0) are ∙ get_d_tabulate (end_given r) (slot_count + 1) j 0 (omega arith)
+
+  pub ends-count : length ends ≡ slot_count + 1
+  unfolding structure_ends
+  ends-count = ap length are ∙ length-tabulate (end_given r) 0 (slot_count + 1)
 
   pub ends-bound : (j : ℕ) → j ≤ slot_count → get_or ends j 0 ≤ 1454
   ends-bound j h = omega (arith, ends_at j h, end-bound r j h)

@@ -11,7 +11,7 @@ use crate::plan::{Entries, Heap, Plan};
 use crate::starts::structure_ends;
 use crate::stored::{entry_fields, wanted_sizes};
 use ibft_build_rules::Built;
-use ibft_layout::layout::SLOT_COUNT;
+use ibft_layout::layout::{ENTRY_COUNT, SLOT_COUNT};
 use ibft_record::record::entry_limit;
 use ibft_record::refusals::contents_verdict;
 use table_header::verdict::{ACCEPTED, Refusal, Verdict};
@@ -22,8 +22,10 @@ fn build_contents(range: &[u8], strings: &[u8], room: &mut [u8]) -> Built
     ensures { Ends range.now strings.now room.old result room.new }
 {
     let limit = entry_limit(range);
-    let fields = entry_fields(range, limit);
-    let wanted = wanted_sizes(range, limit);
+    let mut fields = [0u16; ENTRY_COUNT as usize];
+    entry_fields(range, limit, &mut fields);
+    let mut wanted = [0u16; ENTRY_COUNT as usize];
+    wanted_sizes(range, limit, &mut wanted);
     let entries = Entries {
         range,
         strings,
@@ -32,7 +34,8 @@ fn build_contents(range: &[u8], strings: &[u8], room: &mut [u8]) -> Built
         wanted: &wanted,
     };
     let ends = structure_ends(range);
-    let sizes = entries.heap_sizes();
+    let mut sizes = [0u16; ENTRY_COUNT as usize];
+    entries.heap_sizes(&mut sizes);
     let heap = Heap {
         entries,
         start: ends[SLOT_COUNT as usize],
@@ -49,7 +52,8 @@ fn build_contents(range: &[u8], strings: &[u8], room: &mut [u8]) -> Built
             length: 0,
         };
     }
-    let offsets = heap.entry_offsets();
+    let mut offsets = [0u16; ENTRY_COUNT as usize];
+    heap.entry_offsets(&mut offsets);
     let plan = Plan {
         entries,
         ends: &ends,

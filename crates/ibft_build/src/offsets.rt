@@ -1,6 +1,6 @@
 // Where entries stand: a stored one behind those stored before it, any other at the tail of its holder, the lowest-numbered
 // stored entry that ends with it and is no secret.
-ghost use Rattle.std.specs.Prelude.{◌≡◌, true, false, ℕ, ◌+◌, ◌*◌, ◌≤◌, ◌<◌};
+ghost use Rattle.std.specs.Prelude.{◌≡◌, true, false, ℕ, ◌+◌, ◌*◌, ◌≤◌, ◌<◌, replicate};
 ghost use Rattle.octets.specs.Counting.{sum_to};
 ghost use Rattle.string_heap.specs.Stored.{stored};
 ghost use Rattle.string_heap.specs.Places.{holder, place};
@@ -92,14 +92,13 @@ impl<'a> Heap<'a> {
         0
     }
 
-    // The offset of each entry.
-    pub(crate) fn entry_offsets(&self) -> [u16; ENTRY_COUNT as usize]
-        ensures { result ≡ entry_offsets self.now.entries.range.now self.now.entries.strings.now }
+    // The offset of each entry, into a list of zeros.
+    pub(crate) fn entry_offsets(&self, offsets: &mut [u16; ENTRY_COUNT as usize])
+        requires { offsets.old ≡ replicate entry_count 0 }
+        ensures { offsets.new ≡ entry_offsets self.now.entries.range.now self.now.entries.strings.now }
     {
-        let mut offsets = [0u16; ENTRY_COUNT as usize];
         for i in 0..self.entries.limit {
             offsets[i as usize] = self.entry_offset(i);
         }
-        offsets
     }
 }

@@ -1,7 +1,7 @@
 // Which entries are stored, and what they take in the heap: a secret always, with its own bytes; any other unless it is a tail
 // of one that is no secret. What each entry would take is read off the range once, and lent to the tests: a missing entry wants
 // 0, so that one comparison passes over missing and shorter entries alike.
-ghost use Rattle.std.specs.Prelude.{◌≡◌, true, false, ℕ, ◌+◌, ◌≤◌, ◌<◌, length};
+ghost use Rattle.std.specs.Prelude.{◌≡◌, true, false, ℕ, ◌+◌, ◌≤◌, ◌<◌, length, replicate};
 ghost use Rattle.octets.specs.Counting.{any};
 ghost use Rattle.ibft_layout.specs.Layout.{entry_count, named_entries, may_share, owner_of, string_of};
 ghost use Rattle.string_heap.specs.Tails.{is_tail};
@@ -38,19 +38,18 @@ fn named_field(range: &[u8], n: u8) -> u16
     image_at(range, owner_of(n as u16)) + at
 }
 
-// Where the range holds each entry's length; its start stands 2 further. (Those of the named slots have fixed places.)
-pub(crate) fn entry_fields(range: &[u8], limit: u8) -> [u16; ENTRY_COUNT as usize]
-    requires { limit ≡ entry_limit range.now }
-    ensures { result ≡ entry_fields range.now }
+// Where the range holds each entry's length, into a list of zeros; its start stands 2 further. (Those of the named slots have
+// fixed places. Lists are filled where they stand: an array that a function answers is copied twice on the stack.)
+pub(crate) fn entry_fields(range: &[u8], limit: u8, fields: &mut [u16; ENTRY_COUNT as usize])
+    requires { (limit ≡ entry_limit range.now) × (fields.old ≡ replicate entry_count 0) }
+    ensures { fields.new ≡ entry_fields range.now }
 {
-    let mut fields = [0u16; ENTRY_COUNT as usize];
     for n in 0..NAMED_ENTRIES {
         fields[n as usize] = named_field(range, n);
     }
     for n in NAMED_ENTRIES..limit {
         fields[n as usize] = field_at(range, n) as u16;
     }
-    fields
 }
 
 // What entry n, of the named slots, takes in the heap where it is stored, its bytes and one zero; 0 where it is missing.
@@ -75,19 +74,17 @@ fn wanted_size(range: &[u8], n: u8) -> u16
     0
 }
 
-// What each entry would take; those behind the limit are missing.
-pub(crate) fn wanted_sizes(range: &[u8], limit: u8) -> [u16; ENTRY_COUNT as usize]
-    requires { Short range.now × (limit ≡ entry_limit range.now) }
-    ensures { result ≡ wanted_sizes range.now }
+// What each entry would take, into a list of zeros; those behind the limit are missing.
+pub(crate) fn wanted_sizes(range: &[u8], limit: u8, sizes: &mut [u16; ENTRY_COUNT as usize])
+    requires { Short range.now × (limit ≡ entry_limit range.now) × (sizes.old ≡ replicate entry_count 0) }
+    ensures { sizes.new ≡ wanted_sizes range.now }
 {
-    let mut sizes = [0u16; ENTRY_COUNT as usize];
     for n in 0..NAMED_ENTRIES {
         sizes[n as usize] = named_size(range, n);
     }
     for n in NAMED_ENTRIES..limit {
         sizes[n as usize] = wanted_size(range, n);
     }
-    sizes
 }
 
 // Does the first byte differ from the byte as far from the end of the other entry, which is no shorter? Then it is no tail of
@@ -176,14 +173,13 @@ impl<'a> Entries<'a> {
         0
     }
 
-    // What each entry takes in the heap: 0 of one that is not stored.
-    pub(crate) fn heap_sizes(&self) -> [u16; ENTRY_COUNT as usize]
-        ensures { result ≡ heap_sizes self.now.range.now self.now.strings.now }
+    // What each entry takes in the heap, into a list of zeros: 0 of one that is not stored.
+    pub(crate) fn heap_sizes(&self, sizes: &mut [u16; ENTRY_COUNT as usize])
+        requires { sizes.old ≡ replicate entry_count 0 }
+        ensures { sizes.new ≡ heap_sizes self.now.range.now self.now.strings.now }
     {
-        let mut sizes = [0u16; ENTRY_COUNT as usize];
         for i in 0..self.limit {
             sizes[i as usize] = self.heap_size(i);
         }
-        sizes
     }
 }

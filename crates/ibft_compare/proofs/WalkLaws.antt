@@ -4,7 +4,7 @@
 --     walked-few                     no more differences than points
 --     walked-is                      from its start on: how many differ, and the one asked for
 --     each-gather, each-tabulate, each-pairs, points-walked      the points of several pairs, and all points
---     points-gather                                              the points of one
+--     fields-gather, strings-gather, points-gather               the points of one
 -- Assumes nothing.
 use mathlib.Core.Path.{◌≡◌, refl, sym, ap, ap₂, ◌∙◌}
 use mathlib.Core.Bool.{Bool, true, false, cond}
@@ -229,13 +229,13 @@ strings-from p g k zero = refl
 strings-from p g k (suc n) = ap (λ (l : List Point). string_at p k (g k) ∷ l) (strings-from p g (suc k) n)
 
 module _ (p : Pair) (h : p.group < slot_count) where
-  fields-gather : field_points p ≡ gather (λ (n : ℕ). field_at p (kind_field (kind_of p.group) n) ∷ []) 0 (suc (length (kind_of p.group).fields))
+  pub fields-gather : field_points p ≡ gather (λ (n : ℕ). field_at p (kind_field (kind_of p.group) n) ∷ []) 0 (suc (length (kind_of p.group).fields))
   unfolding field_points
   fields-gather =
       ap (map (field_at p)) (tabulate-equal _ _ slot_count fields-are p.group h)
       ∙ map-gather (field_at p) (kind_field (kind_of p.group)) 0 (suc (length (kind_of p.group).fields))
 
-  strings-gather : string_points p ≡ gather (λ (j : ℕ). string_at p j (string_of (first_entry p.group + j)) ∷ []) 0
+  pub strings-gather : string_points p ≡ gather (λ (j : ℕ). string_at p j (string_of (first_entry p.group + j)) ∷ []) 0
       (length (kind_of p.group).string_fields)
   unfolding string_points
   strings-gather =

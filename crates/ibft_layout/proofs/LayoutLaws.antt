@@ -3,7 +3,7 @@
 --     rows                              two tables that have the same rows from one on
 --     kind-past, index-past             past the last slot stands slot 0
 --     kind-nic, kind-target, kind-other the kind of a slot, by its ID
---     field_past                        past the last field of a kind stand its flags
+--     field_row, field_past             the fields of a kind, by number; past the last stand its flags
 --     nic-past, target_past             past the last NIC and target stands no slot
 --     owner-extra, string-extra         the entries of extras, by arithmetic
 --     owner-past, string-past           past the last entry stands one of no slot
@@ -28,6 +28,7 @@ use Rattle.ibft_layout.specs.Layout.{kind_field, first_entry, indices, index_of,
 use Rattle.ibft_layout.specs.Layout.{nic_slots, nic_slot, target_slots, target_slot, entry_count, named_entries, entries_of, entries_from}
 use Rattle.ibft_layout.specs.Layout.{entry_layout, owner_of, string_of, target_entries, target_strings}
 use Rattle.ibft_layout.specs.Shapes.{field_shape}
+use Rattle.ibft_layout.specs.declared.shape.FieldShape.{FieldShape}
 
 -- n is none of 1 to k, as the last arm has it
 abbrev NoneOf : ℕ → ℕ → Type 0
@@ -91,6 +92,10 @@ kind-target k e = sym (kind-by k ∙ ap kind_by e)
 pub kind-other : (k : ℕ) → ((kind_of k).id ≡ 3 → ⊥) → ((kind_of k).id ≡ 4 → ⊥) → initiator ≡ kind_of k
 unfolding kind_by
 kind-other k a b = sym (kind-by k ∙ rw (ne_eqb (kind_of k).id 3 a, ne_eqb (kind_of k).id 4 b))
+
+-- field m of a kind, where n is m
+pub field_row : (kind : Kind) (m n : ℕ) (r : FieldShape) → r ≡ field_shape (kind_field kind m) → n ≡ m → r ≡ field_shape (kind_field kind n)
+field_row kind m n r e same = e ∙ ap (λ (i : ℕ). field_shape (kind_field kind i)) (sym same)
 
 pub field_past : (kind : Kind) (n : ℕ) → length (fields_of kind) ≤ n → field_shape (kind_field kind n) ≡ field_shape (kind_field kind 0)
 unfolding kind_field

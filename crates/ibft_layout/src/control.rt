@@ -3,7 +3,7 @@ ghost use Rattle.ibft_layout.specs.Layout.{control};
 ghost use Rattle.ibft_layout.specs.Shapes.{shape_of};
 ghost use Rattle.std.specs.Prelude.{◌≡◌};
 
-use crate::shape::FLAGS_AT;
+use crate::shape::{FLAGS_AT, Shape};
 
 // Its flags; the words that say where the other structures start are read one by one.
 #[derive(Clone, Copy)]
@@ -38,4 +38,20 @@ impl Control {
     pub const EXTENSIONS_AT: u16 = 54;
 
     pub const WORDS_AT: u16 = 56;
+
+    // What the layout knows of the kind.
+    pub(crate) const SHAPE: Shape = Shape {
+        id: Self::ID,
+        version: Self::VERSION,
+        length: Self::LENGTH,
+        reserved: Self::RESERVED,
+        chap: false,
+    };
+
+    // The constant as a call, which promises what it is.
+    pub(crate) fn shape() -> Shape
+        ensures { result ≡ shape_of control }
+    {
+        Self::SHAPE
+    }
 }

@@ -51,6 +51,13 @@ impl Initiator {
         chap: false,
     };
 
+    // The constant as a call, which promises what it is.
+    pub(crate) fn shape() -> Shape
+        ensures { result ≡ shape_of initiator }
+    {
+        Self::SHAPE
+    }
+
     // Field n of an initiator: its flags, then those behind them, then the two words of each string; past the last, its flags.
     #[tactic(auto, unfolding(crate::specs::Layout::kind_field))]
     pub(crate) fn field(n: u8) -> FieldShape

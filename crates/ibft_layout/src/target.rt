@@ -93,6 +93,13 @@ impl Target {
         chap: true,
     };
 
+    // The constant as a call, which promises what it is.
+    pub fn shape() -> Shape
+        ensures { result ≡ shape_of target }
+    {
+        Self::SHAPE
+    }
+
     // Field n of a target: its flags, then those behind them, then the two words of each string; past the last, its flags.
     #[tactic(auto, unfolding(crate::specs::Layout::kind_field))]
     pub(crate) fn field(n: u8) -> FieldShape

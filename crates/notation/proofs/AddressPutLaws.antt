@@ -32,6 +32,27 @@ module _ (a : List ℕ) (k n j : ℕ) (before : (i : ℕ) → i < j → differs 
   unfolding zero_run
   run-whole h = sym (first-is n (λ (i : ℕ). differs (group_at a (k + i)) 0) j (omega arith) before (λ l. absurd (omega arith)))
 
+-- the longest run, by the first
+module _ (a : List ℕ) (k n : ℕ) where
+  pub longest-none : n ≡ 0 → record { start = k; size = 0 } ≡ longest a k n
+  unfolding longest
+  longest-none e = rw e
+
+  -- the run from k on is z long, and `later` is the longest behind k
+  module _ (z : ℕ) (later : Run) (some_left : 0 < n) (here : z ≡ zero_run a k n) (behind : later ≡ longest a (k + 1) (n - 1)) where
+    longest-longer : longer (record { start = k; size = z }) later ≡ longest a k n
+    unfolding longest
+    longest-longer =
+        let all : suc (n - 1) ≡ n = omega arith in
+        let step : longer (record { start = k; size = z }) later ≡ longest a k (suc (n - 1)) = rw (here ∙ ap (zero_run a k) (sym all), behind, add-one) in
+        step ∙ ap (longest a k) all
+
+    pub longest-here : later.size ≤ z → record { start = k; size = z } ≡ longest a k n
+    longest-here h = rw (le-leb later.size z h) at longest-longer
+
+    pub longest-later : z < later.size → later ≡ longest a k n
+    longest-later h = rw (lt-leb later.size z h) at longest-longer
+
 -- a run behind b that is not longer than b is not in the way, and one that is longer takes b's place
 longer-old : (b h l : Run) → h.size ≤ b.size → longer b (longer h l) ≡ longer b l
 longer-old b h l shorter =
@@ -83,10 +104,6 @@ module _ (a : List ℕ) where
 -- ---- numbers with separators between
 
 module _ (a : List ℕ) (four : Bool) where
-  pub numbers-none : (k : ℕ) → [] ≡ numbers_text a four k 0
-  unfolding numbers_text join tabulate
-  numbers-none k = refl
-
   -- the first one, before the others
   numbers-more-suc : (k m : ℕ) → number_text a four k ++ (separator four ∷ numbers_text a four (k + 1) (suc m)) ≡ numbers_text a four k (suc (suc m))
   unfolding numbers_text join tabulate
@@ -102,6 +119,27 @@ module _ (a : List ℕ) (four : Bool) where
       (ap (λ (t : List ℕ). number_text a four k ++ (separator four ∷ t)) (numbers-last-suc (k + 1) m) ∙ numbers-more-suc k (suc m))
 
   module _ (k n : ℕ) where
+    pub numbers-none : n ≡ 0 → [] ≡ numbers_text a four k n
+    unfolding numbers_text join tabulate
+    numbers-none e = rw e
+
+    pub numbers-one : n ≡ 1 → number_text a four k ≡ numbers_text a four k n
+    unfolding numbers_text join tabulate
+    numbers-one e = rw e
+
+    numbers_more : 1 < n → number_text a four k ++ (separator four ∷ numbers_text a four (k + 1) (n - 1)) ≡ numbers_text a four k n
+    numbers_more h =
+        let less : n - 1 ≡ suc (n - 2) = omega arith in
+        let all : suc (suc (n - 2)) ≡ n = omega arith in
+        rw less (numbers-more-suc k (n - 2) ∙ ap (numbers_text a four k) all)
+
+    -- a number, the separator, and the numbers behind it
+    pub puts-more : {t u v w : List ℕ} {at m i r s : ℕ} → 1 < n → Puts t u at m (number_text a four k) → s ≡ separator four → Puts u v m i (s ∷ [])
+        → Puts v w i r (numbers_text a four (k + 1) (n - 1)) → Puts t w at r (numbers_text a four k n)
+    puts-more {s = s} h p e q f =
+        puts-same (puts-append p (puts-append (puts-same q (ap (λ (x : ℕ). x ∷ []) e)) f)) (numbers_more h)
+
+    -- the last one, behind the others
     numbers-first : n ≡ 0 → numbers_text a four k n ++ number_text a four (k + n) ≡ numbers_text a four k (n + 1)
     unfolding numbers_text join tabulate
     numbers-first e = rw (e, add-zero k)

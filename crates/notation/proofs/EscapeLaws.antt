@@ -253,13 +253,16 @@ module _ (t : List ℕ) (i : ℕ) {before after : List ℕ} {at place : ℕ} (so
 
 -- ---- what the answer to the length says of the string
 
-pub decoded-none : (m : Option (List ℕ)) → None ≡ option_map length m → m ≡ None
-decoded-none None e = refl
-decoded-none (Some s) e = absurd (let z : ◌≡◌ {A = ℕ} 0 1 = cc in omega arith)
+pub decoded-bad : (m : Option (List ℕ)) → None ≡ option_map length m → m ≡ None
+decoded-bad None e = refl
+decoded-bad (Some s) e = absurd (let z : ◌≡◌ {A = ℕ} 0 1 = cc in omega arith)
 
-pub decoded-some : (m : Option (List ℕ)) (n : ℕ) → Some n ≡ option_map length m → (m ≡ Some (content_of m)) × (n ≡ length (content_of m))
-decoded-some None n e = let z : ◌≡◌ {A = ℕ} 0 1 = cc in absurd (omega arith)
-decoded-some (Some s) n e = (refl, cc)
+pub decoded-length : (m : Option (List ℕ)) (n : ℕ) → Some n ≡ option_map length m → (m ≡ Some (content_of m)) × (n ≡ length (content_of m))
+decoded-length None n e = let z : ◌≡◌ {A = ℕ} 0 1 = cc in absurd (omega arith)
+decoded-length (Some s) n e = (refl, cc)
+
+pub content-bad : (m : Option (List ℕ)) → None ≡ option_map length m → [] ≡ content_of m
+content-bad m e = sym (ap content_of (decoded-bad m e))
 
 -- the length that a text has, or 0 where it stands for no string
 abbrev pub size_of : Option (List ℕ) → ℕ

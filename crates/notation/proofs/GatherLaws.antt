@@ -1,6 +1,6 @@
 -- Laws of `Gathers`, for the functions that read an address: pieces gathered one behind another are gathered in all, whether or
 -- not they fit; and room of n + 1 zeros that ends at n holds exactly those n bytes.
---     short-is, short-long, short-le                   a number of few digits
+--     short-is, short-long, bad-long, short-le         a number of few digits
 --     gathers-some, gathers-none, gathers-both, ..     what is gathered, in all
 --     gathers-last, gathers-stop, gathers-next         the pieces of a text, by its first separator
 --     exactly-yes, exactly-no                          exactly n bytes
@@ -45,6 +45,9 @@ short-long base most max t h = rw (lt-leb (length t) most h)
 pub short-is : (base most max : ℕ) (t : List ℕ) → length t ≤ most → short base most max t ≡ numeral_up_to base max t
 unfolding short
 short-is base most max t h = rw (le-leb (length t) most h)
+
+pub bad-long : (base most max : ℕ) (t : List ℕ) → most < length t → None ≡ short base most max t
+bad-long base most max t h = sym (short-long base most max t h)
 
 pub short-le : (base most max v : ℕ) (t : List ℕ) → short base most max t ≡ Some v → v ≤ max
 short-le base most max v t found =

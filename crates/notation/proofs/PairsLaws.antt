@@ -126,6 +126,9 @@ module _ (n : ℕ) (t : List ℕ) where
       go false e = clash e refl
 
 -- what a loop over the pairs finds
+pub some-zero : (o : Option ℕ) (b : ℕ) → o ≡ Some b → o ≡ Some (unwrap_or o 0)
+some-zero o b e = e ∙ sym (ap (λ (p : Option ℕ). Some (unwrap_or p 0)) e)
+
 pub some-there : (o : Option ℕ) (none : Bool) → is_some o ≡ not none → none ≡ false → o ≡ Some (unwrap_or o 0)
 some-there None true e f = clash refl f
 some-there None false e f = clash e refl

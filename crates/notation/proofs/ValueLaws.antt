@@ -24,9 +24,9 @@ use Rattle.notation.specs.Pairs.{read_pairs, is_read, read_into}
 use Rattle.notation.specs.Escape.{content_of, string_of}
 use Rattle.notation.specs.Value.{filled, is_width, number_bytes, number_value, pairs_value, sixteen, string_value, value_read}
 use Rattle.notation.proofs.ZerosLaws.{zeros-append, zeros-drop, zeros-take}
-use Rattle.notation.proofs.EscapeLaws.{decoded-some}
+use Rattle.notation.proofs.EscapeLaws.{decoded-length}
 use Rattle.notation.proofs.PairsLaws.{read-some}
-use Rattle.notation.proofs.WidthLaws.{unread, tested, pairs-width}
+use Rattle.notation.proofs.WidthLaws.{no_value, tested, pairs-width}
 
 -- ---- sixteen bytes
 
@@ -105,7 +105,7 @@ pub string-too-long : (width n : ℕ) (o : Option (List ℕ)) → Some n ≡ opt
 unfolding value_read
 string-too-long width n None e h = refl
 string-too-long width n (Some s) e h =
-    let long : width < length s = omega (arith, (decoded-some (Some s) n e).1) in
+    let long : width < length s = omega (arith, (decoded-length (Some s) n e).1) in
     rw (lt-leb (length s) width long)
 
 pub string-read : (width n : ℕ) (o : Option (List ℕ)) (bytes : List ℕ) → Some n ≡ option_map length o → n ≤ width → width ≤ 16
@@ -113,7 +113,7 @@ pub string-read : (width n : ℕ) (o : Option (List ℕ)) (bytes : List ℕ) →
 unfolding value_read
 string-read width n None bytes e fits h w = absurd (let z : ◌≡◌ {A = ℕ} 0 1 = cc in omega arith)
 string-read width n (Some s) bytes e fits h w =
-    let within : length s ≤ width = omega (arith, (decoded-some (Some s) n e).1) in
+    let within : length s ≤ width = omega (arith, (decoded-length (Some s) n e).1) in
     rw (le-leb (length s) width within, w, behind-string width s within h)
 
 -- ---- pairs, read before zeros
@@ -161,14 +161,14 @@ pairs-answer width text h = rw (le-leb width 16 h)
 -- ---- the bytes of a value are as many as its field has
 
 pub filled-width : (width : ℕ) (o : Option (List ℕ)) (b : List ℕ) → filled width o ≡ Some b → length b ≡ width
-filled-width width None b e = unread e
+filled-width width None b e = no_value e
 filled-width width (Some s) b e =
     let both = tested (leb (length s) width) (s ++ zeros (width - length s)) b e in
     let short : length s ≤ width = leb-true (length s) width both.0 in
     omega (arith, ap length (sym both.1), length-append s (zeros (width - length s)), length-zeros (width - length s))
 
 pub mapped-width : (f : ℕ → List ℕ) (n : ℕ) → ((k : ℕ) → length (f k) ≡ n) → (o : Option ℕ) (b : List ℕ) → option_map f o ≡ Some b → length b ≡ n
-mapped-width f n h None b e = unread e
+mapped-width f n h None b e = no_value e
 mapped-width f n h (Some k) b e = let same : f k ≡ b = cc in ap length (sym same) ∙ h k
 
 pub number-width : (width : ℕ) (text b : List ℕ) → is_width width ≡ true → number_bytes width text ≡ Some b → length b ≡ width

@@ -1,5 +1,5 @@
 -- Reading gives as many bytes as the notation has.
---     unread, tested, untested, either-width                what is read where a test passes, where it does not, and where one of
+--     unread, no_value, tested, untested, either-width      what is read where a test passes, where it does not, and where one of
 --                                                           two readings holds
 --     exactly-width, four-width, gap-width, address-width   addresses have 16 bytes
 --     every-width, pairs-width, mac-width                   n pairs are n bytes
@@ -8,6 +8,7 @@ use Rattle.octets.specs.Options.{bind}
 use Rattle.std.specs.Prelude.{Option, None, Some, option_map}
 use mathlib.Core.Path.{◌≡◌, refl, sym, ap, ◌∙◌}
 use mathlib.Core.List.{List, [], ◌∷◌, ◌++◌}
+use mathlib.Core.Option.{none, some}
 use mathlib.Core.Bool.{Bool, true, false, cond}
 use Prim.Native.Nat.{ℕ, suc, ◌+◌, ◌-◌, ◌*◌, ◌≤◌}
 use native.Mathlib.Omega.{arith}
@@ -26,17 +27,21 @@ use Rattle.notation.specs.Address.{exactly, filled as gap_filled, bytes_of, deci
 use Rattle.notation.specs.Address.{without_gap, read_six, mapped, mapped_four, holds, colon, dot, read_address}
 
 -- no value is both read and not
-pub unread : {A X : Type 0} {x : A} → None ≡ Some x → X
+pub unread {ℓ} : {A : Type ℓ} {X : Type 0} {x : A} → none ≡ some x → X
 unread e = let z : ◌≡◌ {A = ℕ} 0 1 = cc in absurd (omega arith)
+
+-- .. in the code's Option, which holds small types alone
+pub no_value : {A X : Type 0} {x : A} → None ≡ Some x → X
+no_value e = let z : ◌≡◌ {A = ℕ} 0 1 = cc in absurd (omega arith)
 
 -- a value where a test passes, else none
 pub tested : {A : Type 0} (d : Bool) (x y : A) → cond d (Some x) None ≡ Some y → (d ≡ true) × (x ≡ y)
 tested true x y e = (refl, cc)
-tested false x y e = unread e
+tested false x y e = no_value e
 
 -- where the test does not pass, there is none of another value either
 pub untested : {A B : Type 0} (d : Bool) (x : A) (o : Option B) → None ≡ cond d (Some x) None → None ≡ cond d o None
-untested true x o e = unread e
+untested true x o e = no_value e
 untested false x o e = refl
 
 -- one or the other
@@ -46,20 +51,20 @@ either-width n true x y h k b e = h b e
 either-width n false x y h k b e = k b e
 
 pub exactly-width : (n : ℕ) (o : Option (List ℕ)) (b : List ℕ) → exactly n o ≡ Some b → length b ≡ n
-exactly-width n None b e = unread e
+exactly-width n None b e = no_value e
 exactly-width n (Some xs) b e =
     let both = tested (eqb (length xs) n) xs b e in
     ap length (sym both.1) ∙ eqb-true (length xs) n both.0
 
 pub four-width : (o : Option (List ℕ)) → ((b : List ℕ) → o ≡ Some b → length b ≡ 4) → (b : List ℕ) → mapped_four o ≡ Some b → length b ≡ 16
-four-width None h b e = unread e
+four-width None h b e = no_value e
 four-width (Some xs) h b e =
     let same : mapped xs ≡ b = cc in
     omega (arith, ap length (sym same), length-append (zeros 10) (255 ∷ 255 ∷ xs), length-zeros 10, h xs refl)
 
 pub gap-width : (o p : Option (List ℕ)) (b : List ℕ) → gap_filled o p ≡ Some b → length b ≡ 16
-gap-width None p b e = unread e
-gap-width (Some xs) None b e = unread e
+gap-width None p b e = no_value e
+gap-width (Some xs) None b e = no_value e
 gap-width (Some xs) (Some ys) b e =
     let n = 16 - (length xs + length ys) in
     let both = tested (leb (length xs + length ys) 14) (xs ++ (zeros n ++ ys)) b e in
@@ -77,12 +82,12 @@ address-width text =
 pub every-width : (os : List (Option ℕ)) (b : List ℕ) → every os ≡ Some b → length b ≡ length os
 unfolding every bind
 every-width [] b e = let same : [] ≡ b = cc in ap length (sym same)
-every-width (None ∷ os) b e = unread e
+every-width (None ∷ os) b e = no_value e
 every-width (Some n ∷ os) b e = go (every os) (every-width os) b e
   where
     go : (rest : Option (List ℕ)) → ((b : List ℕ) → rest ≡ Some b → length b ≡ length os) → (b : List ℕ)
         → option_map (λ (ns : List ℕ). n ∷ ns) rest ≡ Some b → length b ≡ suc (length os)
-    go None q b e = unread e
+    go None q b e = no_value e
     go (Some ns) q b e = let same : n ∷ ns ≡ b = cc in ap length (sym same) ∙ ap suc (q ns refl)
 
 pub pairs-width : (n : ℕ) (text b : List ℕ) → read_pairs n text ≡ Some b → length b ≡ n
@@ -90,7 +95,7 @@ unfolding read_pairs
 pairs-width n text =
     let pairs : ℕ → Option ℕ = λ k. hex_byte_at text (3 * k) in
     either-width n (pairs_form n text) (every (tabulate pairs 0 n)) None
-    (λ b e. every-width (tabulate pairs 0 n) b e ∙ length-tabulate pairs 0 n) (λ b e. unread e)
+    (λ b e. every-width (tabulate pairs 0 n) b e ∙ length-tabulate pairs 0 n) (λ b e. no_value e)
 
 pub mac-width : (text b : List ℕ) → read_mac text ≡ Some b → length b ≡ 6
 unfolding read_mac

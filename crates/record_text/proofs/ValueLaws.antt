@@ -1,34 +1,65 @@
 -- Laws of values read.
 --     field_fits                      every field has a width that its notation can have
 --     each_at, each_field, each-field-at, group_passes, group-field, every-field, slot-field     a test of all fields
---     oem-width, port-width           the width of an OEM field, and of a port
+--     number-width                    the widths of a number
+--     port-width, port-number, oem-width     the width of a port, and of an OEM field
+--     number_read, number-unread      the bytes of a number that is read, or not
+--     bytes_read, address-read, address-unread     bytes
+--     flags-row                       the names of a kind's flags
 --     word_read, word-unread          a word
 -- Assumes nothing.
 use mathlib.Core.Path.{◌≡◌, refl, sym, ap, ◌∙◌}
 use mathlib.Core.List.{List, [], ◌∷◌}
-use Rattle.std.specs.Prelude.{None, Some}
+use Rattle.std.specs.Prelude.{Option, None, Some, option_map, is_some, unwrap_or}
 use mathlib.Core.Bool.{Bool, true, false, ◌&&◌}
-use Prim.Native.Nat.{ℕ, zero, suc, ◌≤◌, ◌<◌}
+use native.Mathlib.Decide.{dec_lt}
+use Prim.Native.Nat.{ℕ, zero, suc, ◌-◌, ◌^◌, ◌≤◌, ◌<◌}
 use native.Mathlib.Omega.{arith}
-use borrow.Author.Tests.{lt-ltb, le-ltb, leb-true, eqb-true}
-use lib.ListN.{get_or}
+use borrow.Author.Tests.{lt-ltb, le-ltb, leb-true, ne_eqb, eqb-true}
+use lib.ListN.{length, take, get_or}
+use Rattle.octets.specs.Octets.{le64, zeros, write}
+use Rattle.octets.proofs.WriteLaws.{length-zeros, write-front}
 use Rattle.octets.proofs.CountingLaws.{clash}
 use Rattle.octets.proofs.TestLaws.{and_both}
 use Rattle.text.specs.Split.{each}
 use Rattle.text.specs.Words.{word_number, word_count}
-use Rattle.notation.specs.Value.{is_width, sixteen, value_read}
+use Rattle.notation.specs.Number.{number_up_to}
+use Rattle.notation.specs.Value.{is_width, sixteen, number_bytes, value_read}
+use Rattle.notation.proofs.ZerosLaws.{zeros-drop}
 use Rattle.ibft_layout.specs.Layout.{Kind, Field, field, initiator, kinds, kind_of}
 use Rattle.record_text.specs.Fields.{Group, groups, oem, group_of, notation_in, place_in, field_of}
 use Rattle.record_text.specs.declared.fields.Notation.{Notation}
-use Rattle.record_text.specs.declared.fields.Notation.TheVariants.{Oem, Port}
+use Rattle.record_text.specs.declared.fields.Notation.TheVariants.{Oem, Port, Number as NumberField}
 use Rattle.record_text.specs.Value.{word_byte, fits}
 
 -- ---- widths
 
--- the width of an OEM field, and of a port
-pub port-width : (notation : Notation) (width : ℕ) → notation ≡ Port → fits notation width ≡ true → is_width width ≡ true
+-- the widths of a number
+pub number-width : (width : ℕ) → fits NumberField width ≡ true → (width ≡ 1 → ⊥) → (width ≡ 2 → ⊥) → 8 ≡ width
 unfolding fits is_width
-port-width notation width e h = let two : width ≡ 2 = eqb-true width 2 (rw e at h) in rw two
+number-width width e one two =
+    elim (dec_lt width 8) [
+      | yes h ↦ absurd (other (omega arith))
+      | no h ↦
+          elim (dec_lt 8 width) [
+            | yes g ↦ absurd (other (omega arith))
+            | no g ↦ omega arith
+          ]
+    ]
+  where
+    other : (width ≡ 8 → ⊥) → ⊥
+    other h =
+        let refused : fits NumberField width ≡ false = rw (ne_eqb width 1 one, ne_eqb width 2 two, ne_eqb width 8 h) in
+        let z : ◌≡◌ {A = ℕ} 0 1 = cc in absurd (omega arith)
+
+-- the width of a port, which a number can have, and of an OEM field
+pub port-width : (notation : Notation) (width : ℕ) → notation ≡ Port → fits notation width ≡ true → 2 ≡ width
+unfolding fits
+port-width notation width e h = sym (eqb-true width 2 (rw e at h))
+
+pub port-number : (notation : Notation) (width : ℕ) → notation ≡ Port → fits notation width ≡ true → is_width width ≡ true
+unfolding is_width
+port-number notation width e h = let two : 2 ≡ width = port-width notation width e h in rw (← two)
 
 pub oem-width : (notation : Notation) (width : ℕ) → notation ≡ Oem → fits notation width ≡ true → width ≤ 16
 unfolding fits
@@ -87,6 +118,50 @@ fit notation place = fits notation place.width
 pub field_fits : (kind n : ℕ) → fits (field_of kind n).notation (field_of kind n).width ≡ true
 unfolding each each_field group_passes field_of fit fits is_width
 field_fits kind n = every-field fit refl refl kind n
+
+-- ---- numbers
+
+-- what a number that is read says of its bytes
+abbrev of_number : ℕ → Option ℕ → Option (List ℕ)
+of_number width (Some n) = value_read (Some (take width (le64 n)))
+of_number width None = value_read None
+
+of-number : (width : ℕ) (o : Option ℕ) → of_number width o ≡ value_read (option_map (λ (n : ℕ). take width (le64 n)) o)
+of-number width None = refl
+of-number width (Some n) = refl
+
+-- the bytes of a number that was read, and none where none was
+pub number_read : (width n : ℕ) (text : List ℕ) → Some n ≡ number_up_to (256 ^ width - 1) text
+    → value_read (Some (take width (le64 n))) ≡ value_read (number_bytes width text)
+unfolding number_bytes
+number_read width n text e = ap (of_number width) e ∙ of-number width (number_up_to (256 ^ width - 1) text)
+
+pub number-unread : (width : ℕ) (text : List ℕ) → None ≡ number_up_to (256 ^ width - 1) text → value_read None ≡ value_read (number_bytes width text)
+unfolding number_bytes
+number-unread width text e = ap (of_number width) e ∙ of-number width (number_up_to (256 ^ width - 1) text)
+
+-- ---- bytes
+
+-- bytes written in front of sixteen zeros
+pub bytes_read : (bytes all : List ℕ) → length bytes ≤ 16 → all ≡ write (zeros 16) 0 bytes → Some all ≡ value_read (Some bytes)
+unfolding value_read
+bytes_read bytes all h e =
+    rw (e, write-front (zeros 16) bytes (omega (arith, length-zeros 16)), zeros-drop (length bytes) 16)
+
+-- what was answered for an address: it is read, or it is not
+pub address-read : (o a : Option (List ℕ)) → a ≡ o → is_some a ≡ true → Some (unwrap_or a []) ≡ o
+address-read o None e there = clash there refl
+address-read o (Some bytes) e there = e
+
+pub address-unread : (o a : Option (List ℕ)) → a ≡ o → is_some a ≡ false → None ≡ o
+address-unread o None e none = e
+address-unread o (Some bytes) e none = clash refl none
+
+-- ---- flags
+
+-- the names of the flags of kind m, where the kind is m; kinds that are no structure's have none
+pub flags-row : (m kind : ℕ) → kind ≡ m → (group_of m).flags ≡ (group_of kind).flags
+flags-row m kind e = ap (λ (k : ℕ). (group_of k).flags) (sym e)
 
 -- ---- words
 

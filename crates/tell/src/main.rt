@@ -3,11 +3,13 @@
 // The first four bytes say the family; what has no family's signature is checked as an iBFT.
 #![tactic(auto)]
 
+use bench_io::console::Console;
 use bench_io::{LONGEST_TABLE, argument, hides, write_refusal};
 use family_text::fields::{ABFT, SBFT};
 use octets::read::{part, u32_at};
 use record_text::tell::tell;
 use scan::Family;
+use std::env::Env;
 
 // (No text is longer than the room.)
 fn tell_ibft(rt: &impl Print, t: &[u8], hide: bool) -> std::io::Result<()> {
@@ -52,13 +54,18 @@ fn tell_table(rt: &impl Print, t: &[u8], hide: bool) -> std::io::Result<()> {
 }
 
 // With a word that it does not know it tells nothing.
-fn main(rt: HostRuntime) -> std::io::Result<()> {
+fn run(rt: &impl Env, console: &Console) -> std::io::Result<()> {
     let mut word = [0u8; 32];
-    let n = argument(&rt, 1, &mut word);
+    let n = argument(rt, 1, &mut word);
     let Some(hide) = hides(part(&word, 0, n)) else {
-        return eprintln!(rt; "tell: the one word that may follow is hide-secrets");
+        return eprintln!(console; "tell: the one word that may follow is hide-secrets");
     };
     let mut input = [0u8; LONGEST_TABLE];
     let n = io::read_full(0, &mut input);
-    tell_table(&rt, part(&input, 0, n), hide)
+    tell_table(console, part(&input, 0, n), hide)
+}
+
+fn main(rt: HostRuntime) {
+    // (The console gives no error.)
+    let _ = run(&rt, &Console);
 }

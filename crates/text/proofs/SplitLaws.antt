@@ -1,12 +1,15 @@
 -- Laws of text taken apart. A search is followed along the list, from one place to the next; a text without its blanks is a
 -- part of it; pieces are taken off one by one at the first separator.
 --     before-le, before-stop, before-next, before-end, before-append     the first byte that passes a test
+--     before-rest, before-zero                                           what stands there
 --     position-length, before-found                                      the same, as `position` finds it
 --     same_refl, same-yes, same-equal, same-unlike, same-no              the same bytes are equal lists
+--     same-lengths, same-differ, same-elements, below_more               the same, place by place
 --     same-pointwise                                                     the same bytes, as `==` finds it
 --     trim-part, value-part                                              what is left stands at that place
 --     trim_end-size                                                      how many bytes are left, by the last that is no blank
---     trim_end-whole, trim_end-append, trim-whole                        texts with no blank at their ends are left whole
+--     trim_end-less, trim_end-stop, trim_end-none                        the first n bytes, by the last of them
+--     trim_end-whole, trim_end-last, trim_end-append, trim-whole         texts with no blank at their ends are left whole
 --     field-line, value_line, trim-line                                  a line made of a field, a blank and a value
 --     pieces-first, pieces-some, pieces_none                             pieces, by the first separator
 --     pieces-cut                                                         pieces, as `split` gives them
@@ -17,10 +20,11 @@ use mathlib.Core.List.{List, [], ◌∷◌, ◌++◌, append-nil}
 use mathlib.Core.Bool.{Bool, true, false, cond, not, ◌&&◌}
 use Prim.Native.Nat.{ℕ, zero, suc, ◌+◌, ◌-◌, ◌≤◌, ◌<◌}
 use native.Mathlib.Numerals.{add-one, one-add}
+use native.Mathlib.Decide.{dec_lt}
 use native.Mathlib.Omega.{arith}
 use borrow.Author.Tests.{eqb-true, eq-eqb, ltb-false, not-true}
 use lib.ListN.{length, take, drop, get_or, length-append, drop_of_length-le}
-use lib.Seq.{drop-cons, take-append_seam, drop-append_seam}
+use lib.Seq.{drop-cons, take-suc, take-append_seam, drop-append_seam, length-take-le, ext_get_or}
 use lib.Dec.{eqb, ltb}
 use Rattle.std.specs.Prelude.{Option, Some, None, unwrap_or}
 use Rattle.std.specs.List.{position, position_or_len, slice_split}
@@ -66,6 +70,23 @@ module _ (p : ℕ → Bool) where
       let both = and_both (not (p a)) (lacks p x) h in
       let here : p a ≡ false = not-true (p a) both.0 in
       rw here (ap suc (before-append x b t both.1 e))
+
+  pub before-rest : (t : List ℕ) → before p (drop (before p t) t) ≡ 0
+  unfolding before
+  before-rest [] = refl
+  before-rest (b ∷ t) = go (p b) refl (before-rest t)
+    where
+      go : (d : Bool) → p b ≡ d → before p (drop (before p t) t) ≡ 0 → before p (drop (cond d 0 (suc (before p t))) (b ∷ t)) ≡ 0
+      go true e h = rw e
+      go false e h = h
+
+  pub before-zero : (b : ℕ) (t : List ℕ) → before p (b ∷ t) ≡ 0 → p b ≡ true
+  unfolding before
+  before-zero b t = go (p b)
+    where
+      go : (d : Bool) → cond d 0 (suc (before p t)) ≡ 0 → d ≡ true
+      go true e = refl
+      go false e = absurd (omega arith)
 
 -- `position`, or the length where it finds nothing
 pub position-length : {X : Type 0} (p : X → Bool) (xs : List X) (r : Option ℕ) → r ≡ position p xs → unwrap_or r (length xs) ≡ position_or_len p xs
@@ -117,6 +138,25 @@ same-unlike a b unlike = go (same a b) refl
 pub same-no : (a b : List ℕ) → same a b ≡ false → a ≡ b → ⊥
 same-no a b e q = clash (same-yes a b q) e
 
+-- a loop that compares: lists of other lengths, lists that differ at i, lists with the same elements
+pub same-lengths : (a b : List ℕ) → (length a ≡ length b → ⊥) → false ≡ same a b
+same-lengths a b unlike = sym (same-unlike a b (λ e. unlike (ap length e)))
+
+pub same-differ : (a b : List ℕ) (i : ℕ) → (get_or a i 0 ≡ get_or b i 0 → ⊥) → false ≡ same a b
+same-differ a b i unlike = sym (same-unlike a b (λ e. unlike (ap (λ (l : List ℕ). get_or l i 0) e)))
+
+pub same-elements : (a b : List ℕ) → length a ≡ length b → ((i : ℕ) → i < length a → get_or a i 0 ≡ get_or b i 0) → true ≡ same a b
+same-elements a b e h = sym (same-yes a b (ext_get_or 0 a b e h))
+
+-- one place more is compared
+pub below_more : (a b : List ℕ) (i : ℕ) → ((j : ℕ) → j < i → get_or a j 0 ≡ get_or b j 0) → get_or a i 0 ≡ get_or b i 0
+    → (j : ℕ) → j < i + 1 → get_or a j 0 ≡ get_or b j 0
+below_more a b i h e j l = go (dec_lt j i)
+  where
+    go : Dec (j < i) → get_or a j 0 ≡ get_or b j 0
+    go (yes m) = h j m
+    go (no m) = let z : j ≡ i = omega arith in rw z e
+
 -- `==` of two slices
 pub same-pointwise : (a b : List ℕ) → pointwise eqb a b ≡ same a b
 unfolding same
@@ -146,6 +186,40 @@ trim_end-size (b ∷ t) zero h blank ends =
 trim_end-size (b ∷ t) (suc n) h blank ends =
     let rest : n ≡ length (trim_end t) = trim_end-size t n (omega arith) (λ k l m. blank (suc k) (omega arith) (omega arith)) (λ m e. ends (suc m) (ap suc e)) in
     ap suc rest ∙ kept-more b (trim_end t) (λ e. ends 0 (ap suc (rest ∙ sym e)))
+
+-- one blank less at the end, and a last byte that is none
+trim_end-blank : (x : List ℕ) (b : ℕ) → is_blank b ≡ true → trim_end (x ++ (b ∷ [])) ≡ trim_end x
+unfolding trim_end
+trim_end-blank [] b e = rw e
+trim_end-blank (a ∷ x) b e = ap (kept a) (trim_end-blank x b e)
+
+kept-last : (a : ℕ) (x : List ℕ) (b : ℕ) → kept a (x ++ (b ∷ [])) ≡ a ∷ (x ++ (b ∷ []))
+kept-last a [] b = refl
+kept-last a (y ∷ ys) b = refl
+
+pub trim_end-last : (x : List ℕ) (b : ℕ) → is_blank b ≡ false → trim_end (x ++ (b ∷ [])) ≡ x ++ (b ∷ [])
+unfolding trim_end
+trim_end-last [] b e = rw e
+trim_end-last (a ∷ x) b e = ap (kept a) (trim_end-last x b e) ∙ kept-last a x b
+
+-- the first n bytes, by the last of them
+module _ (s : List ℕ) (n : ℕ) (some : 0 < n) (inside : n ≤ length s) where
+  take_last : take n s ≡ take (n - 1) s ++ (get_or s (n - 1) 0 ∷ [])
+  take_last =
+      let e : n ≡ suc (n - 1) = omega arith in
+      ap (λ (k : ℕ). take k s) e ∙ take-suc s (n - 1) 0 (omega arith)
+
+  pub trim_end-less : is_blank (get_or s (n - 1) 0) ≡ true → trim_end (take n s) ≡ trim_end (take (n - 1) s)
+  trim_end-less e = ap trim_end take_last ∙ trim_end-blank (take (n - 1) s) (get_or s (n - 1) 0) e
+
+  pub trim_end-stop : is_blank (get_or s (n - 1) 0) ≡ false → length (trim_end (take n s)) ≡ n
+  trim_end-stop e =
+      ap length (ap trim_end take_last ∙ trim_end-last (take (n - 1) s) (get_or s (n - 1) 0) e ∙ sym take_last)
+      ∙ length-take-le n s inside
+
+pub trim_end-none : (s : List ℕ) → length (trim_end (take 0 s)) ≡ 0
+unfolding trim_end
+trim_end-none s = refl
 
 -- what is left stands at the front
 kept-alone : (d : Bool) (b : ℕ) (t : List ℕ) → take (length (cond d [] (b ∷ []))) (b ∷ t) ≡ cond d [] (b ∷ [])

@@ -1,36 +1,87 @@
--- Laws of lists of words: `split` gives them. The words of a text with blanks between are those of its pieces that are not
--- empty. A set of words is read and put word by word.
+-- Laws of lists of words: `split` gives them, and the first ends at the first space, with the rest of the list behind it. The
+-- words of a text with blanks between are those of its pieces that are not empty. A set of words is read and put word by word.
 --     words_cut, count-most                               the words of a list, as `split` gives them; how many at most
---     number-found, number-most, word-shown               a word's number, and the word of a number
---     non_empty-cons                                      the words of a text with blanks between
+--     number-first, number-last, number-next              a word's number, by the first word
+--     count-last, count_next                              how many words there are, by the first
+--     at_first, at_last, at_next                          the word of a number, by the first
+--     number-found, number-before, number-most            a word's number, by its place and by the words before it
+--     word-shown                                          the word of a number
+--     non_empty-cons, tokens_none, tokens-next            the words of a text with blanks between
 --     with-unknown, with-high, with-twice, with-next      a word added to a set
---     with-empty, with-stop, with-more                    the pieces of a text added, one by one
+--     with_none, with-empty, with-stop, with-more         no word; the pieces of a text added, one by one
 --     set-none, set-no-words, set_words                   the set that is written in a text
 --     listed-end, listed-skip, listed-word, listed-text   the words of a set as text
 -- Assumes nothing.
 use mathlib.Core.Path.{◌≡◌, refl, sym, ap, ◌∙◌}
 use mathlib.Core.List.{List, [], ◌∷◌, ◌++◌, append-nil}
 use mathlib.Core.Bool.{Bool, true, false, cond, not, ◌||◌, or-true}
-use Prim.Native.Nat.{ℕ, zero, suc, ◌+◌, ◌*◌, ◌/◌, ◌%◌, ◌^◌, ◌≤◌, ◌<◌}
+use Prim.Native.Nat.{ℕ, zero, suc, ◌+◌, ◌-◌, ◌*◌, ◌/◌, ◌%◌, ◌^◌, ◌≤◌, ◌<◌}
 use native.Mathlib.Nat.{one-mul, pow-suc, pow-succ', div-div-eq-div-mul}
 use native.Mathlib.Numerals.{add-one, one-add}
 use native.Mathlib.Omega.{arith}
-use borrow.Author.Tests.{le-leb, lt-leb}
-use lib.ListN.{length, drop, get_or, drop_of_length-le}
-use lib.Seq.{drop-cons}
+use borrow.Author.Tests.{le-leb, lt-leb, not-true}
+use lib.ListN.{length, take, drop, get_or, drop_of_length-le}
+use lib.Seq.{drop-cons, length-take-le}
 use lib.Dec.{eqb, leb}
 use lib.Pow.{shl_exact}
-use Rattle.text.specs.Split.{is_blank, is, before, same, blanks, trim, field_size, pieces_by, join}
+use Rattle.octets.proofs.CountingLaws.{clash}
+use Rattle.octets.proofs.ReadLaws.{take_rest}
+use Rattle.text.specs.Split.{is_blank, blank_is, is, before, index_of, same, blanks, trim, field_size, pieces_by, join}
 use Rattle.text.specs.Words.{words_of, word_number, word_count, word_at, place_of, bit, non_empty, tokens, with_words, no_word, some_words, read_word_set}
 use Rattle.text.specs.Words.{chosen, set_text, spaced, listed}
 use Rattle.std.specs.Prelude.{Option, Some, None, unwrap_or, option_map, slice_get}
 use Rattle.std.specs.Borrow.{Bor}
-use Rattle.std.specs.List.{position, position_or_len, slice_split}
+use Rattle.std.specs.List.{position, position_or_len, slice_split, take_while}
+use Rattle.std.proofs.lemmas.List.Folds.{length-prefix_len}
 use Rattle.std.proofs.lemmas.Option.{unwrap_or-slice_get, none-some, same_Some}
 use Rattle.std.proofs.lemmas.List.Recursion.{is_position_or_len}
 use Rattle.std.proofs.lemmas.List.Splits.{length-slice_split}
 use Rattle.std.proofs.lemmas.List.Sums.{prefix_len-le-length, count_by-le-length}
-use Rattle.text.proofs.SplitLaws.{position-length, pieces-first, pieces-cut}
+use Rattle.text.proofs.SplitLaws.{before-le, before-rest, before-zero, position-length, after, pieces-first, pieces-some, pieces_none, pieces-cut}
+
+-- ---- the words of a list, one by one
+
+-- the first word of the list ends at n
+module _ (list : List ℕ) (n : ℕ) (end : n ≡ index_of 32 list) where
+  words-first : words_of list ≡ take n list ∷ after (is 32) (drop n list)
+  words-first = pieces-first (is 32) list n end
+
+  words_last : length list ≤ n → words_of list ≡ take n list ∷ []
+  words_last h = pieces_none (is 32) list n end h
+
+  words-next : n < length list → words_of list ≡ take n list ∷ words_of (drop (n + 1) list)
+  words-next h = pieces-some (is 32) list n end h
+
+  pub number-first : (word : List ℕ) → same (take n list) word ≡ true → 0 ≡ word_number list word
+  unfolding place_of
+  number-first word e = rw (words-first, e)
+
+  pub number-last : (word : List ℕ) → same (take n list) word ≡ false → length list ≤ n → 1 ≡ word_number list word
+  unfolding place_of
+  number-last word e h = rw (words_last h, e)
+
+  pub number-next : (word : List ℕ) → same (take n list) word ≡ false → n < length list → word_number list word ≡ suc (word_number (drop (n + 1) list) word)
+  unfolding place_of
+  number-next word e h = rw (words-next h, e)
+
+  pub count-last : length list ≤ n → 1 ≡ word_count list
+  count-last h = rw (words_last h)
+
+  pub count_next : n < length list → word_count list ≡ suc (word_count (drop (n + 1) list))
+  count_next h = rw (words-next h)
+
+  pub at_first : take n list ≡ word_at list 0
+  at_first = rw words-first
+
+  pub at_last : (k : ℕ) → length list ≤ n → (k ≡ 0 → ⊥) → [] ≡ word_at list k
+  at_last zero h some = absurd (some refl)
+  at_last (suc m) h some = rw (words_last h)
+
+  pub at_next : (k : ℕ) → n < length list → (k ≡ 0 → ⊥) → word_at (drop (n + 1) list) (k - 1) ≡ word_at list k
+  at_next zero h some = absurd (some refl)
+  at_next (suc m) h some =
+      let e : suc m - 1 ≡ m = omega arith in
+      rw (e, words-next h)
 
 -- ---- the words of a list, as `split` gives them
 
@@ -52,6 +103,10 @@ module _ (list word : List ℕ) where
   pub number-found : (r : Option ℕ) → r ≡ position (λ w. same w word) (slice_split (is 32) list) → unwrap_or r (word_count list) ≡ word_number list word
   number-found r e = position-length (λ w. same w word) (words_of list) r (rw words_cut at e) ∙ sym number-place
 
+  -- its number is how many words `split` gives before it
+  pub number-before : length (take_while (λ w. not (same w word)) (slice_split (is 32) list)) ≡ word_number list word
+  number-before = rw words_cut (length-prefix_len (λ w. not (same w word)) (words_of list)) ∙ sym number-place
+
 -- the word that `nth` shows, or one of no bytes
 pub word-shown : (list : List ℕ) (n : ℕ) (r : Option (Bor (List ℕ))) (none : Bor (List ℕ)) → none.now ≡ []
     → option_map (λ w. w.now) r ≡ slice_get (slice_split (is 32) list) n → (unwrap_or r none).now ≡ word_at list n
@@ -63,6 +118,11 @@ word-shown list n r none empty e = shown r ∙ rw (e, empty, words_cut) (unwrap_
 
 -- ---- words with blanks between
 
+-- a text whose first byte is no blank and is a blank has no bytes
+nothing_left : (t : List ℕ) → field_size t ≡ 0 → blanks t ≡ 0 → t ≡ []
+nothing_left [] e f = refl
+nothing_left (b ∷ t) e f = clash (before-zero is_blank b t e) (not-true (is_blank b) (before-zero (blank_is false) b t f))
+
 tokens-skip : (s : List ℕ) → tokens s ≡ tokens (drop (blanks s) s)
 unfolding pieces_by non_empty before
 tokens-skip [] = refl
@@ -71,6 +131,11 @@ tokens-skip (b ∷ t) = go (is_blank b) refl (tokens-skip t)
     go : (d : Bool) → is_blank b ≡ d → tokens t ≡ tokens (drop (blanks t) t) → tokens (b ∷ t) ≡ tokens (drop (blanks (b ∷ t)) (b ∷ t))
     go true e h = rw e h
     go false e h = rw (e, e)
+
+tokens-after : (t : List ℕ) → field_size t ≡ 0 → non_empty (after is_blank t) ≡ tokens t
+unfolding pieces_by non_empty after
+tokens-after [] e = refl
+tokens-after (b ∷ t) e = rw (before-zero is_blank b t e)
 
 pub non_empty-cons : (l : List ℕ) (ls : List (List ℕ)) → 0 < length l → non_empty (l ∷ ls) ≡ l ∷ non_empty ls
 unfolding non_empty
@@ -81,6 +146,31 @@ non_empty-skip : (l : List ℕ) (ls : List (List ℕ)) → length l ≡ 0 → no
 unfolding non_empty
 non_empty-skip [] ls h = refl
 non_empty-skip (b ∷ l) ls h = absurd (omega arith)
+
+-- `rest` is what stands behind the blanks of s, as `&s[start..]` has it, and its first word has n bytes
+module _ (s : List ℕ) (start n : ℕ) (skipped : start ≡ blanks s) where
+  abbrev rest : List ℕ
+  rest = take (length s - start) (drop start s)
+
+  tokens-rest : tokens s ≡ tokens rest
+  tokens-rest = tokens-skip s ∙ ap (λ (k : ℕ). tokens (drop k s)) (sym skipped) ∙ ap tokens (sym (take_rest start s))
+
+  rest-blanks : blanks rest ≡ 0
+  rest-blanks = rw (take_rest start s, skipped) (before-rest (blank_is false) s)
+
+  module _ (size : n ≡ field_size rest) where
+    pub tokens_none : n ≡ 0 → tokens s ≡ []
+    unfolding pieces_by non_empty
+    tokens_none z = tokens-rest ∙ ap tokens (nothing_left rest (sym size ∙ z) rest-blanks)
+
+    pub tokens-next : (n ≡ 0 → ⊥) → tokens s ≡ take n rest ∷ tokens (drop n rest)
+    tokens-next some =
+        let inside : n ≤ length rest = omega (arith, before-le is_blank rest) in
+        let word : 0 < length (take n rest) = omega (arith, length-take-le n rest inside) in
+        let ended : field_size (drop n rest) ≡ 0 = rw size (before-rest is_blank rest) in
+        tokens-rest ∙ ap non_empty (pieces-first is_blank rest n size)
+        ∙ non_empty-cons (take n rest) (after is_blank (drop n rest)) word
+        ∙ ap (λ (ls : List (List ℕ)). take n rest ∷ ls) (tokens-after (drop n rest) ended)
 
 -- a text with a byte that is no blank has a word
 words-some : (list s : List ℕ) → blanks s < length s → with_words list 0 (tokens s) ≡ some_words list (tokens s)
@@ -146,6 +236,10 @@ module _ (list : List ℕ) (v : ℕ) (cut : List (List ℕ)) (w : List ℕ) (ws 
             → with_words list u (non_empty ws) ≡ cond d None (with_words list (v + 2 ^ word_number list w) (non_empty ws))
         go true f = absurd (none-some _ (sym f))
         go false f = ap (λ (x : ℕ). with_words list x (non_empty ws)) (same_Some _ _ f)
+
+pub with_none : (list : List ℕ) (v : ℕ) (ts : List (List ℕ)) → ts ≡ [] → Some v ≡ with_words list v ts
+unfolding with_words
+with_none list v ts e = rw e
 
 -- the text is `none`; it is not, and has no words; it has some
 pub set-none : (list s : List ℕ) → same (trim s) no_word ≡ true → Some 0 ≡ read_word_set list s

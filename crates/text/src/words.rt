@@ -11,8 +11,8 @@ pub fn word_number(list: &[u8], word: &[u8]) -> usize
     ensures { (result ≡ word_number list.now word.now) × (result ≤ length list.now + 1) }
 {
     list.split(|b| *b == b' ')
-        .position(|w| same(w, word))
-        .unwrap_or_else(|| word_count(list))
+        .take_while(|w| !same(w, word))
+        .count()
 }
 
 // How many words the list has.

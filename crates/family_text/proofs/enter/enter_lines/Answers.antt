@@ -9,7 +9,7 @@ use Rattle.text.proofs.SplitLaws.{pieces-cut}
 use Rattle.family_text.specs.Enter.{lines_from}
 use Rattle.family_text.specs.Entering.{draft_with}
 use Rattle.family_text.proofs.LinesLaws.{lines-most}
-use Rattle.family_text.proofs.EnterLaws.{reason-some, lines-stop, lines-next}
+use Rattle.family_text.proofs.EnterLaws.{reason-some, lines-refused, lines-next}
 use Rattle.family_text.proofs.enter.enter_lines.Goals as goal
 
 pub loop-said-init : goal.loop-said-init
@@ -30,7 +30,7 @@ pub returns-in-Err : goal.returns-in-Err
 returns-in-Err c =
     let l = c.loop-said in
     let more = left-some l.invariant.1 c.in-Some.said c.next.new.self c.in-Some.ensures.steps in
-    lines-stop _ more.0 _ _ l.line _ c.in-Err.ensures (reason-some c.in-Err.unread.reason)
+    lines-refused _ more.0 _ _ l.line _ c.in-Err.ensures (reason-some c.in-Err.unread.reason)
     ∙ ap (lines_from c.args.family (draft_with l.image l.given) l.line) (sym more.1) ∙ l.invariant.5
 
 pub overflow_add-line : goal.overflow_add-line

@@ -3,12 +3,12 @@
 use Rattle.std.proofs.Common.{◌≡◌, arith}
 use Rattle.ibft_layout.specs.Layout.{entry_count}
 use Rattle.ibft_build.specs.Planning.{wanted_sizes}
-use Rattle.ibft_build.proofs.ListLaws.{filled_none, filled-done}
+use Rattle.ibft_build.proofs.ListLaws.{filled-zeros, filled-done}
 use Rattle.ibft_build.proofs.EntryLaws.{limit-most, wanted-past}
 use Rattle.ibft_build.proofs.stored.wanted_sizes.Goals as goal
 
 pub loop-n-init : goal.loop-n-init
-loop-n-init c = filled_none _ entry_count
+loop-n-init c = filled-zeros _ entry_count _ c.requires.2
 
 pub loop-n-2-init : goal.loop-n-2-init
 loop-n-2-init c =

@@ -1,13 +1,13 @@
 -- `put_numbers` meets its contract: behind the numbers that are put stands one more, with a separator before it unless it is
 -- the first. Assumes nothing.
-use Rattle.std.proofs.Common.{◌≡◌, arith}
+use Rattle.std.proofs.Common.{◌≡◌, refl, arith}
 use Rattle.text.proofs.PutLaws.{puts-same}
 use Rattle.notation.proofs.AddressPutLaws.{numbers-none, puts-first, puts-other}
 use Rattle.notation.proofs.address.put_numbers.Goals as goal
 use Rattle.notation.proofs.address.put_numbers.Goals.{then-i-ne0, else-i-ne0}
 
 pub loop-i-init : goal.loop-i-init
-loop-i-init c = puts-same c.put_text-end.ensures (numbers-none c.args.a.now c.args.four c.args.k)
+loop-i-init c = puts-same c.put_text-end.ensures (numbers-none c.args.a.now c.args.four c.args.k 0 refl)
 
 pub loop-i-preserved : goal.loop-i-preserved
 loop-i-preserved c =

@@ -5,7 +5,7 @@ use borrow.Author.Tests.{lt-leb}
 use Rattle.octets.specs.Octets.{zeros}
 use Rattle.notation.specs.Escape.{string_of}
 use Rattle.notation.specs.Value.{string_value}
-use Rattle.notation.proofs.EscapeLaws.{decoded-none}
+use Rattle.notation.proofs.EscapeLaws.{decoded-bad}
 use Rattle.notation.proofs.ValueLaws.{string-answer, string-unread, string-too-long, string-read}
 use Rattle.notation.proofs.value.string_value.Goals as goal
 
@@ -16,7 +16,7 @@ returns-then-width-gt16 c = rw (lt-leb c.args.width 16 c.if-width-gt16.true)
 pub returns-in_err-size : goal.returns-in_err-size
 returns-in_err-size c =
     let o = string_of c.args.text.now in
-    c.from_residual.ensures ∙ string-unread c.args.width o (decoded-none o (sym c.in_err-size.was ∙ c.string_length.ensures))
+    c.from_residual.ensures ∙ string-unread c.args.width o (decoded-bad o (sym c.in_err-size.was ∙ c.string_length.ensures))
     ∙ sym (string-answer c.args.width _ (omega arith))
 
 pub returns-then-width-size : goal.returns-then-width-size

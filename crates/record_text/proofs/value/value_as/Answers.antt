@@ -6,7 +6,7 @@ use Rattle.notation.proofs.ValueLaws.{sixteen-whole, number-answer, string-answe
 use Rattle.notation.proofs.WidthLaws.{address-width}
 use Rattle.record_text.specs.Value.{fits, value_bytes}
 use Rattle.record_text.specs.declared.fields.Notation.{Notation}
-use Rattle.record_text.proofs.ValueLaws.{oem-width, port-width}
+use Rattle.record_text.proofs.ValueLaws.{oem-width, port-number}
 use Rattle.record_text.proofs.value.value_as.Goals as goal
 
 pub returns-in-Oem : goal.returns-in-Oem
@@ -33,7 +33,7 @@ pub returns-in-Port : goal.returns-in-Port
 unfolding value_bytes
 returns-in-Port c =
     rw c.in-Port.is
-    (c.number_value-in-Port.ensures ∙ number-answer c.args.width c.args.text.now (port-width _ _ c.in-Port.is c.requires))
+    (c.number_value-in-Port.ensures ∙ number-answer c.args.width c.args.text.now (port-number _ _ c.in-Port.is c.requires))
 
 pub returns-in-Address : goal.returns-in-Address
 unfolding value_bytes

@@ -3,12 +3,12 @@
 use Rattle.std.proofs.Common.{arith}
 use Rattle.ibft_layout.specs.Layout.{entry_count}
 use Rattle.ibft_build.specs.Planning.{entry_offsets}
-use Rattle.ibft_build.proofs.ListLaws.{filled_none, filled-done}
+use Rattle.ibft_build.proofs.ListLaws.{filled-zeros, filled-done}
 use Rattle.ibft_build.proofs.PlaceLaws.{offset-past}
 use Rattle.ibft_build.proofs.plan.Heap.entry_offsets.Goals as goal
 
 pub loop-i-init : goal.loop-i-init
-loop-i-init c = filled_none _ entry_count
+loop-i-init c = filled-zeros _ entry_count _ c.requires
 
 pub returns : goal.returns
 unfolding entry_offsets
